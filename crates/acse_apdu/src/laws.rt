@@ -22,8 +22,10 @@ pub fn associations_are_read_as_spelled()
 /// What one side writes to ask for an association or to accept one spells that, wherever it lies, and the other side
 /// reads it.
 pub fn associations_are_read_back()
-    ensures aarq { (context : ℕ) (pdu : List ℕ) → context < 2 ^ 32 → length (aarq_content context pdu) < 2 ^ 32 → pdu_of_aarq (aarq_octets context pdu) ≡ Ok pdu }
-    ensures aare { (context : ℕ) (pdu : List ℕ) → context < 2 ^ 32 → length (aare_content context pdu) < 2 ^ 32 → pdu_of_aare (aare_octets context pdu) ≡ Ok pdu }
+    ensures aarq { (context : ℕ) (pdu : List ℕ) → context < 2 ^ 32 → length (aarq_content context pdu) < 2 ^ 32
+        → pdu_of_aarq (aarq_octets context pdu) ≡ Ok pdu }
+    ensures aare { (context : ℕ) (pdu : List ℕ) → context < 2 ^ 32 → length (aare_content context pdu) < 2 ^ 32
+        → pdu_of_aare (aare_octets context pdu) ≡ Ok pdu }
     ensures aarq_spelled { (input : Piece) (context : ℕ) (pdu : List ℕ) → context < 2 ^ 32 → length (aarq_content context pdu) < 2 ^ 32
         → input.octets ≡ aarq_octets context pdu → (p : Piece) × IsAarq input p × (p.octets ≡ pdu) }
     ensures aare_spelled { (input : Piece) (context : ℕ) (pdu : List ℕ) → context < 2 ^ 32 → length (aare_content context pdu) < 2 ^ 32
@@ -40,12 +42,16 @@ pub fn releases_are_read_back()
 
 /// What is written has exactly the fields that it says, and no spelling of these fields is shorter.
 pub fn written_apdus_are_minimal()
-    ensures aarq { (context : ℕ) (pdu : List ℕ) → context < 2 ^ 32 → length (aarq_content context pdu) < 2 ^ 32 → IsPlainAarq (aarq_octets context pdu) context pdu }
-    ensures aare { (context : ℕ) (pdu : List ℕ) → context < 2 ^ 32 → length (aare_content context pdu) < 2 ^ 32 → IsPlainAare (aare_octets context pdu) context pdu }
+    ensures aarq { (context : ℕ) (pdu : List ℕ) → context < 2 ^ 32 → length (aarq_content context pdu) < 2 ^ 32
+        → IsPlainAarq (aarq_octets context pdu) context pdu }
+    ensures aare { (context : ℕ) (pdu : List ℕ) → context < 2 ^ 32 → length (aare_content context pdu) < 2 ^ 32
+        → IsPlainAare (aare_octets context pdu) context pdu }
     ensures rlrq { IsPlainRelease RLRQ (release_octets RLRQ) }
     ensures rlre { IsPlainRelease RLRE (release_octets RLRE) }
-    ensures shortest_aarq { (octets : List ℕ) (context : ℕ) (pdu : List ℕ) → IsBytes octets → IsPlainAarq octets context pdu → length (aarq_octets context pdu) ≤ length octets }
-    ensures shortest_aare { (octets : List ℕ) (context : ℕ) (pdu : List ℕ) → IsBytes octets → IsPlainAare octets context pdu → length (aare_octets context pdu) ≤ length octets }
+    ensures shortest_aarq { (octets : List ℕ) (context : ℕ) (pdu : List ℕ) → IsBytes octets → IsPlainAarq octets context pdu
+        → length (aarq_octets context pdu) ≤ length octets }
+    ensures shortest_aare { (octets : List ℕ) (context : ℕ) (pdu : List ℕ) → IsBytes octets → IsPlainAare octets context pdu
+        → length (aare_octets context pdu) ≤ length octets }
     ensures shortest_release { (tag : ℕ) (octets : List ℕ) → IsBytes octets → IsPlainRelease tag octets → length (release_octets tag) ≤ length octets }
 {}
 

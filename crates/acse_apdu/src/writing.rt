@@ -3,7 +3,8 @@
 ghost use Rattle.std.specs.Prelude.{◌≡◌, ◌<◌, ◌^◌, ◌++◌, length, IfOk, OnOk};
 ghost use Rattle.ber_write.specs.Minimal.{octets_of};
 ghost use Rattle.acse_apdu.specs.declared.codes.TheConstants.{RLRQ, RLRE};
-ghost use Rattle.acse_apdu.specs.Written.{name_field, result_fields, external_content, information_content, aarq_content, aare_content, aarq_octets, aare_octets, release_octets};
+ghost use Rattle.acse_apdu.specs.Written.{name_field, result_fields, external_content, information_content, aarq_content, aare_content, aarq_octets};
+ghost use Rattle.acse_apdu.specs.Written.{aare_octets, release_octets};
 
 use crate::codes::{
     AARE, AARQ, APPLICATION_CONTEXT_NAME, EXTERNAL, INTEGER, OBJECT_IDENTIFIER, RESULT,

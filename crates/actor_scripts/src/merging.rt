@@ -40,7 +40,8 @@ fn put(places: &mut [Option<Made>], place: u64, made: Made)
 /// Puts the steps of a part into their places.
 fn put_part(places: &mut [Option<Made>], part: Part)
     ensures length { length places.new ≡ length places.old }
-    ensures right { (c : Config) (h : History) → part.replies.items ≡ replies_of c part.actor h → AreRight (made_of c h) places.old → AreRight (made_of c h) places.new }
+    ensures right { (c : Config) (h : History) → part.replies.items ≡ replies_of c part.actor h → AreRight (made_of c h) places.old
+        → AreRight (made_of c h) places.new }
 {
     let Part {
         actor,

@@ -8,7 +8,8 @@ ghost use Rattle.mms_data.specs.Grammar.{IsSpelled};
 ghost use Rattle.report_cut.specs.Pdus.{Ascend, IsShort, HasData, CanBeCut};
 ghost use Rattle.bay_answers.specs.ControlPdus.{HasShortName, IsShortError, IsShortTermination};
 ghost use Rattle.bay_answers.specs.Replies.{IsNode, IsWritable, CanBeReplied, CanBeSent};
-ghost use Rattle.answer_text.specs.Sendable.{is_seen_writable, are_writable as are_row_writable, is_result_writable as is_written_result, are_nodes as are_nodes_below};
+ghost use Rattle.answer_text.specs.Sendable.{is_seen_writable, are_writable as are_row_writable, is_result_writable as is_written_result};
+ghost use Rattle.answer_text.specs.Sendable.{are_nodes as are_nodes_below};
 
 use bay_model::{ApplError, Member, Output, Reply, Report, Termination};
 use ber_view::whole;

@@ -18,7 +18,8 @@ pub fn associations_stand()
     ensures arrival { (c : Model) (m n : ℕ) (before : Past) (rows : List Row) → Stands rows c before → Stands rows c (arrival n m ∷ before) }
     ensures deed { (c : Model) (m n : ℕ) (d : Deed) (before : Past) (rows : List Row) (k : Coming)
         → Stands rows c (arrival n m ∷ before) → IsComing k c n d before → Stands (came d k rows) c (record { moment = m; step = n; deed = d } ∷ before) }
-    ensures again { (c : Model) (m n : ℕ) (q : Point) (before : Past) (rows : List Row) → Stands rows c (q ∷ before) → Stands rows c (arrival n m ∷ q ∷ before) }
+    ensures again { (c : Model) (m n : ℕ) (q : Point) (before : Past) (rows : List Row) → Stands rows c (q ∷ before)
+        → Stands rows c (arrival n m ∷ q ∷ before) }
 {}
 
 /// A table of associations may go to another thread.

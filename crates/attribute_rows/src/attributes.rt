@@ -7,7 +7,8 @@ ghost use Rattle.bay_model.specs.Lookups.{reference_of};
 ghost use Rattle.bay_model.specs.Generated.{selection, within};
 ghost use Rattle.bay_model.specs.NamedLines.{is_setting as is_setting_line, path_item};
 ghost use Rattle.name_leaves.specs.References.{attr_references};
-ghost use Rattle.name_leaves.specs.Attributes.{attr_at, attr_rows, line_attr, twin_attr, parameter_attr, control_attrs, line_flags, no_flags, references_of, rows_of};
+ghost use Rattle.name_leaves.specs.Attributes.{attr_at, attr_rows, line_attr, twin_attr, parameter_attr, control_attrs, line_flags, no_flags};
+ghost use Rattle.name_leaves.specs.Attributes.{references_of, rows_of};
 
 use crate::references::write_reference;
 use bay_model::{AttrRow, Flags, is_setting};
@@ -85,7 +86,8 @@ fn push_parameter(
     control: &CtlDef,
     parameter: CtlParameter,
 ) -> Result<(), AllocError>
-    ensures references { OnOk result (out.new.references ≡ out.old.references ++ reference_of control.now.domain (within (path_item control.now.ln (codes "CF") control.now.path) (parameter_name parameter)) ∷ []) }
+    ensures references { OnOk result (out.new.references ≡ out.old.references ++ reference_of control.now.domain
+        (within (path_item control.now.ln (codes "CF") control.now.path) (parameter_name parameter)) ∷ []) }
     ensures rows { OnOk result (out.new.rows.items ≡ out.old.rows.items ++ record { kind = parameter_kind parameter; flags = no_flags } ∷ []) }
 {
     write_parameter(&mut out.text, control, parameter.name())?;

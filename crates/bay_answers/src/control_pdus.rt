@@ -3,7 +3,8 @@
 
 ghost use Rattle.std.specs.Prelude.{◌≡◌, ◌≤◌, ◌<◌, ◌++◌, ◌^◌, length, OnOk, IfOk};
 ghost use Rattle.sv_base.specs.Data.{data_of};
-ghost use Rattle.bay_answers.specs.ControlPdus.{error_variable, origin_octets, error_parts, error_data as data_of_error, oper_item as item_of, oper_variable, error_pdu as pdu_of_error};
+ghost use Rattle.bay_answers.specs.ControlPdus.{error_variable, origin_octets, error_parts, error_data as data_of_error, oper_item as item_of};
+ghost use Rattle.bay_answers.specs.ControlPdus.{oper_variable, error_pdu as pdu_of_error};
 ghost use Rattle.bay_answers.specs.ControlPdus.{termination_of, termination_pdu as pdu_of_termination, IsShortTermination, report_of, HasShortName};
 ghost use Rattle.bay_answers.specs.Replies.{IsWritable};
 ghost use Rattle.std.specs.Prelude.{Ok};

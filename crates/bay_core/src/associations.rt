@@ -30,7 +30,12 @@ impl Bay {
     /// An association ends, and with it what it has enabled, what it edits and what it has selected.
     fn end(&mut self, a: AssocNo)
         requires { IsNumber a.0 }
-        ensures { self.new ≡ record self.old { rows = ended self.old.rows a.0; parts = after_loss_all a self.old.parts; groups = after_loss a.0 self.old.groups; controls = after_deed (lost_deed a.0) self.old.controls } }
+        ensures { self.new ≡ record self.old {
+          rows = ended self.old.rows a.0;
+          parts = after_loss_all a self.old.parts;
+          groups = after_loss a.0 self.old.groups;
+          controls = after_deed (lost_deed a.0) self.old.controls;
+        } }
     {
         self.associations.end(a);
         lose_all(&mut self.parts, a);

@@ -61,9 +61,20 @@ impl std::marker::Model for Bay {
 
     ghost coded = { Prim.hlevel (codes, row_code, fields_code, seen_code, phase_code, kind_code) };
 
-    ghost view = { λ b. record { config = b.model; steps = b.steps; latest = b.latest; stored = b.values; book = b.sets; parts = b.parts.items; rows = b.associations.rows; groups = b.groups; controls = b.associations.table } };
+    ghost view = { λ b. record {
+      config = b.model;
+      steps = b.steps;
+      latest = b.latest;
+      stored = b.values;
+      book = b.sets;
+      parts = b.parts.items;
+      rows = b.associations.rows;
+      groups = b.groups;
+      controls = b.associations.table;
+    } };
 
-    ghost invariant = { λ b. IsWhole b.model b.values b.groups b.sets b.parts.items b.watch b.octets (vec_capacity b.changes) b.latest b.dues b.events b.associations.table };
+    ghost invariant = { λ b. IsWhole b.model b.values b.groups b.sets b.parts.items b.watch b.octets
+        (vec_capacity b.changes) b.latest b.dues b.events b.associations.table };
 }
 
 impl Bay {

@@ -96,7 +96,10 @@ impl Bay {
         requires few { self.old.steps < 2 ^ 62 }
         requires writer { option_map (λ (e : Ends). e.writer) (row_of self.old.rows a.0).ends ≡ Some actor }
         requires empty { (row_of self.old.rows a.0).waiting ≡ [] }
-        requires quiet { at_arrival moment self.old ≡ record self.old { latest = max self.old.latest moment; controls = at_moment (max self.old.latest moment) self.old.controls } }
+        requires quiet { at_arrival moment self.old ≡ record self.old {
+          latest = max self.old.latest moment;
+          controls = at_moment (max self.old.latest moment) self.old.controls;
+        } }
         ensures does { Does self.old self.new (record { moment = moment; actor = actor.0; step = steps.Take a }) result }
         ensures counted { IsCounted self.old self.new result }
     {

@@ -41,7 +41,8 @@ impl Bay {
     ) -> Result<(), u8>
         requires { b.0 < length self.old.parts }
         ensures kept { (self.new.config ≡ self.old.config) × (self.new.steps ≡ self.old.steps) }
-        ensures answer { (part : ReportBlockValue) → slice_get self.old.parts b.0 ≡ Some part → result ≡ without_effect (answer_at a comp value.now part self.old) }
+        ensures answer { (part : ReportBlockValue) → slice_get self.old.parts b.0 ≡ Some part
+            → result ≡ without_effect (answer_at a comp value.now part self.old) }
         ensures written { (part : ReportBlockValue) → slice_get self.old.parts b.0 ≡ Some part → self.new ≡ written_at a b.0 comp value.now part self.old }
         ensures general { (part : ReportBlockValue) → slice_get self.old.parts b.0 ≡ Some part → AreGeneral a b.0 comp value.now part self.old }
     {

@@ -2,16 +2,19 @@
 
 ghost use Rattle.bay_examples.specs.WorkedNames.{ExampleNamed, FirstNamed, GeneratedNamed, AttributesNumbered, MembersAllowed, TypesNamed};
 ghost use Rattle.bay_examples.specs.WorkedReports.{OneValue, UpdateFlag, TriggerBits, IntegrityPeriod, Interrogation, MomentBelow};
-ghost use Rattle.bay_examples.specs.WorkedBreaks.{TwoMembersInOneWindow, TwoWindows, RepeatedMember, PurgeClosesEntry, InterrogationClosesEntry, IntegrityBeforeEffect, PeriodsBeginAnew};
+ghost use Rattle.bay_examples.specs.WorkedBreaks.{TwoMembersInOneWindow, TwoWindows, RepeatedMember, PurgeClosesEntry, InterrogationClosesEntry};
+ghost use Rattle.bay_examples.specs.WorkedBreaks.{IntegrityBeforeEffect, PeriodsBeginAnew};
 ghost use Rattle.bay_examples.specs.WorkedBuffer.{GapMark, OversizedEntry, ExactCapacity, PurgeOfUnsent, PurgeOfSent, PurgingChanges};
 ghost use Rattle.bay_examples.specs.WorkedResumes.{ResumeAtNewest, ResumeBelowFront, RefusedEntryIDs, LossAndResume, EnabledTwice};
 ghost use Rattle.bay_examples.specs.WorkedHolding.{Holding, LossOfAnother, RefusedComponents, RefusalsInOrder};
 ghost use Rattle.bay_examples.specs.WorkedBlocks.{TieOfBlocks, EarliestStep};
 ghost use Rattle.bay_examples.specs.WorkedReads.{ReadsOfNewestEntry, CountedChanges, ReadOfStructure, RefusedAccess, LongReads};
-ghost use Rattle.bay_examples.specs.WorkedControls.{RefusedOpers, ActAndTermination, NegativeTermination, TestOperate, CancelledSelection, BlockedAndLost, SelectedBesideLoss, LostExecution, LostTermination, RefusedSelects};
+ghost use Rattle.bay_examples.specs.WorkedControls.{RefusedOpers, ActAndTermination, NegativeTermination, TestOperate, CancelledSelection};
+ghost use Rattle.bay_examples.specs.WorkedControls.{BlockedAndLost, SelectedBesideLoss, LostExecution, LostTermination, RefusedSelects};
 ghost use Rattle.bay_examples.specs.WorkedSelections.{SelectedBySBO, OperatedMany, DirectControl, BlockedSBO};
 ghost use Rattle.bay_examples.specs.WorkedSettings.{ActiveGroup, EditedGroup, ConfirmedActive, HeldEdit, LastActivation, DroppedEdit, SetByProcess};
-ghost use Rattle.bay_examples.specs.WorkedRequests.{RepliesInOrder, EnabledByRequest, DefinedSet, NamesAndDeletions, NamesOfSize, WaitingRepliesFull, TerminationsNotCounted, RefusedSteps};
+ghost use Rattle.bay_examples.specs.WorkedRequests.{RepliesInOrder, EnabledByRequest, DefinedSet, NamesAndDeletions, NamesOfSize, WaitingRepliesFull};
+ghost use Rattle.bay_examples.specs.WorkedRequests.{TerminationsNotCounted, RefusedSteps};
 
 /// Worked histories of events, and of what is reported of them.
 pub fn worked_reports()

@@ -40,7 +40,8 @@ impl Model for Heard {
 
     ghost view = { λ h. record { codes = h.answers.items; before = h.before.items; acts = h.acts.items; tests = h.tests.items; room = h.room } };
 
-    ghost invariant = { λ h. (h.room ≤ vec_capacity h.answers) × (h.room ≤ vec_capacity h.before) × (h.room ≤ vec_capacity h.acts) × (h.room ≤ vec_capacity h.tests)
+    ghost invariant = { λ h. (h.room ≤ vec_capacity h.answers) × (h.room ≤ vec_capacity h.before) × (h.room ≤ vec_capacity h.acts)
+        × (h.room ≤ vec_capacity h.tests)
         × (length h.before.items ≤ length h.answers.items) × (length h.acts.items ≤ length h.answers.items) × (length h.tests.items ≤ length h.answers.items) };
 }
 

@@ -33,9 +33,12 @@ ghost use Rattle.bay_queues.specs.Taken.{after_take, oldest, next_of};
 /// further arrival of the same step.
 pub fn queues_stand()
     ensures opened { (c : Model) → Stands (record { rows = replicate 16 closed; table = opened_of c.controls }) c [] }
-    ensures arrival { (c : Model) (n m : ℕ) (before : Past) (q : Queued) → Stands q c before → Stands (record q { table = at_moment (now (arrival n m ∷ before)) q.table }) c (arrival n m ∷ before) }
-    ensures deed { (c : Model) (n m : ℕ) (d : Deed) (k : Coming) (before : Past) (q : Queued) → Stands q c (arrival n m ∷ before) → IsComing k c n d before → Stands (passed_by d k q) c (point_of n m d ∷ before) }
-    ensures again { (c : Model) (n m : ℕ) (p : Point) (before : Past) (q : Queued) → m ≤ now (p ∷ before) → Stands q c (p ∷ before) → Stands q c (arrival n m ∷ p ∷ before) }
+    ensures arrival { (c : Model) (n m : ℕ) (before : Past) (q : Queued) → Stands q c before
+        → Stands (record q { table = at_moment (now (arrival n m ∷ before)) q.table }) c (arrival n m ∷ before) }
+    ensures deed { (c : Model) (n m : ℕ) (d : Deed) (k : Coming) (before : Past) (q : Queued) → Stands q c (arrival n m ∷ before)
+        → IsComing k c n d before → Stands (passed_by d k q) c (point_of n m d ∷ before) }
+    ensures again { (c : Model) (n m : ℕ) (p : Point) (before : Past) (q : Queued) → m ≤ now (p ∷ before) → Stands q c (p ∷ before)
+        → Stands q c (arrival n m ∷ p ∷ before) }
 {}
 
 /// A call comes to what it comes to by the definitions, and the controls with enhanced security are those of the model.
@@ -47,15 +50,20 @@ pub fn calls_come_to()
 
 /// What is put at a Done and at a reply comes to wait, and for no other association.
 pub fn terminations_come()
-    ensures done { (c : Model) (n m : ℕ) (k : CtlNo) (good : Bool) (before : Past) (q : Queued) → Stands q c (arrival n m ∷ before) → IsQueued q.rows q.table → k.0 < length c.controls
-        → ((a : ℕ) → due (control_at q.table.controls k.0).execution ≡ Some a → IsNumber a) → IsComing (coming_of (due (control_at q.table.controls k.0).execution) k good) c n (finished k.0 good) before }
-    ensures reply { (c : Model) (n a : ℕ) (output : Output) (change : Change) (ks : List CtlNo) (before : Past) → IsNumber a → map (λ (k : CtlNo). k.0) ks ≡ tests c n before
+    ensures done { (c : Model) (n m : ℕ) (k : CtlNo) (good : Bool) (before : Past) (q : Queued) → Stands q c (arrival n m ∷ before)
+        → IsQueued q.rows q.table → k.0 < length c.controls
+        → ((a : ℕ) → due (control_at q.table.controls k.0).execution ≡ Some a → IsNumber a)
+        → IsComing (coming_of (due (control_at q.table.controls k.0).execution) k good) c n (finished k.0 good) before }
+    ensures reply { (c : Model) (n a : ℕ) (output : Output) (change : Change) (ks : List CtlNo) (before : Past) → IsNumber a
+        → map (λ (k : CtlNo). k.0) ks ≡ tests c n before
         → IsComing (reply_coming a output ks) c n (answered a output change) before }
 {}
 
 /// What is taken is the output that waits longest by the definitions, and what is left stands behind the point of the Take.
 pub fn oldest_are_taken()
-    ensures { (c : Model) (n m a : ℕ) (w : Waiting) (before : Past) (q : Queued) → Stands q c (arrival n m ∷ before) → IsQueued q.rows q.table → IsNumber a → oldest a q ≡ Some w
-        → (next_of a q ≡ Some (output_of c (arrival n m ∷ before) (waiting_of w))) × ((rest : List queue.Waiting) × (waiting c a (arrival n m ∷ before) ≡ waiting_of w ∷ rest))
+    ensures { (c : Model) (n m a : ℕ) (w : Waiting) (before : Past) (q : Queued) → Stands q c (arrival n m ∷ before) → IsQueued q.rows q.table
+        → IsNumber a → oldest a q ≡ Some w
+        → (next_of a q ≡ Some (output_of c (arrival n m ∷ before) (waiting_of w)))
+        × ((rest : List queue.Waiting) × (waiting c a (arrival n m ∷ before) ≡ waiting_of w ∷ rest))
         × Stands (after_take a q) c (point_of n m (deed_of_waiting a (waiting_of w)) ∷ before) }
 {}

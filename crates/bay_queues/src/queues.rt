@@ -62,7 +62,8 @@ fn end_tests(associations: &mut Assocs, a: AssocNo, tests: &[CtlNo])
 fn hear_oper(a: AssocNo, c: CtlNo, value: &Value, went: Went, said: Value, heard: &mut Heard)
     requires said { option_map (λ m. value_of m.value) (command_of value.now) ≡ Some said }
     requires room { length heard.old.codes < heard.old.room }
-    ensures { (enhanced : ℕ → Bool) → went ≡ effect_in (is_test value.now) (enhanced c.0) → heard.new ≡ heard_with enhanced (did (called a.0 c.0 operate_call value.now)) heard.old }
+    ensures { (enhanced : ℕ → Bool) → went ≡ effect_in (is_test value.now) (enhanced c.0)
+        → heard.new ≡ heard_with enhanced (did (called a.0 c.0 operate_call value.now)) heard.old }
 {
     match went {
         Went::Act => heard.acted(Act {
@@ -89,7 +90,8 @@ fn because(error: ApplError, cause: u8) -> ApplError
 }
 
 impl Queues {
-    ghost use Rattle.std.specs.Prelude.{◌≡◌, ◌≤◌, ◌<◌, ◌∷◌, [], ℕ, Some, true, false, nat_le, None, is_some, map, length, replicate, option_copied, IfOk, OnOk, OnErr, if◌then◌else◌};
+    ghost use Rattle.std.specs.Prelude.{◌≡◌, ◌≤◌, ◌<◌, ◌∷◌, [], ℕ, Some, true, false, nat_le, None, is_some, map, length, replicate, option_copied};
+    ghost use Rattle.std.specs.Prelude.{IfOk, OnOk, OnErr, if◌then◌else◌};
     ghost use Rattle.std.specs.Option.{option_map};
     ghost use Rattle.std.specs.List.{All};
     ghost use Rattle.sv_base.specs.declared.config.CtlDef.{CtlDef};
@@ -228,7 +230,8 @@ impl Queues {
     pub fn select(&mut self, c: CtlNo, a: AssocNo) -> bool
         requires { c.0 < length self.old.table.controls }
         ensures answer { result ≡ can_select_at self.old.table.moment (control_at self.old.table.controls c.0) }
-        ensures left { self.new ≡ (if can_select_at self.old.table.moment (control_at self.old.table.controls c.0) then record self.old { table = after_deed (selected_control a.0 c.0) self.old.table } else self.old) }
+        ensures left { self.new ≡ (if can_select_at self.old.table.moment
+            (control_at self.old.table.controls c.0) then record self.old { table = after_deed (selected_control a.0 c.0) self.old.table } else self.old) }
     {
         self.controls.select(c, a)
     }

@@ -24,15 +24,18 @@ ghost use Rattle.bay_replies.specs.Standing.{SetsStand};
 /// members: its points are as many arrivals.
 pub fn nothing_comes_of_reads()
     ensures deeds { (c : Config) (a n m : ℕ) (past : Past) (s : Service) → AreAllowed c past → IsReading s
-        → map deed_of (outcomes (configured_model c) a n m (singles_of (configured_model c) past s) past) ≡ map (λ o. nothing) (singles_of (configured_model c) past s) }
+        → map deed_of (outcomes (configured_model c) a n m (singles_of (configured_model c) past s) past)
+        ≡ map (λ o. nothing) (singles_of (configured_model c) past s) }
     ensures points { (c : Config) (a n m : ℕ) (past : Past) (s : Service) → AreAllowed c past → IsReading s
-        → after_singles (configured_model c) a n m (singles_of (configured_model c) past s) past ≡ arrivals n m (length (singles_of (configured_model c) past s)) past }
+        → after_singles (configured_model c) a n m (singles_of (configured_model c) past s) past
+        ≡ arrivals n m (length (singles_of (configured_model c) past s)) past }
 {}
 
 /// The nodes of a configuration are attributes, components of report blocks and of setting group blocks, what controls have, and
 /// structures of these, all of which are there; an SBO may be no member of a data set.
 pub fn nodes_are_plain()
-    ensures { (c : Config) (n : ℕ) → IsGrouped c → IsPlainNode (length (attributes c)) (length c.blocks) (length c.controls) (HasGroups c) (node_of (configured_model c) n) }
+    ensures { (c : Config) (n : ℕ) → IsGrouped c → IsPlainNode (length (attributes c)) (length c.blocks) (length c.controls) (HasGroups c)
+        (node_of (configured_model c) n) }
 {}
 
 /// The opened book has the data sets of each history in which clients defined none, and each of them has a name.

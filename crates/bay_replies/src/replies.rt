@@ -91,7 +91,8 @@ impl<'a> Replies<'a> {
         requires served { IsServed self.now.model.now self.now.store.now self.now.groups.now self.now.blocks.now self.now.book.now }
         requires fits { IsFitting self.now.model.now service.now }
         requires reading { IsReading service.now }
-        ensures { IfOk result (λ r. IsReplyTo self.entry.now.model.now self.entry.now.store.now self.entry.now.groups.now self.entry.now.blocks.now self.entry.now.book.now self.entry.now.was self.entry.now.now size service.now r) }
+        ensures { IfOk result (λ r. IsReplyTo self.entry.now.model.now self.entry.now.store.now self.entry.now.groups.now
+            self.entry.now.blocks.now self.entry.now.book.now self.entry.now.was self.entry.now.now size service.now r) }
     {
         // no moment lies above the last that a step can have
         let _last = self.was.ms();

@@ -53,7 +53,8 @@ impl<'a> Replies<'a> {
         domain: &Octs,
         item: &Octs,
     ) -> Result<Reply, AllocError>
-        ensures { IfOk result (λ r. r ≡ set_by self.entry.now (set_named domain.now item.now) (number_named (set_named domain.now item.now) self.entry.now.book.now)) }
+        ensures { IfOk result (λ r. r ≡ set_by self.entry.now (set_named domain.now item.now)
+            (number_named (set_named domain.now item.now) self.entry.now.book.now)) }
     {
         let name = set_name(alloc, domain, item)?;
         match self.book.number_named(&name) {
@@ -75,7 +76,8 @@ impl<'a> Replies<'a> {
         spec: bool,
     ) -> Result<Reply, AllocError>
         requires { (k : ℕ) → k < length self.now.book.now.sets → AreThere (length (nodes_of self.now.model.now)) (set_at self.now.book.now k).nodes }
-        ensures { IfOk result (λ r. r ≡ read_set_by self.entry.now size (set_named domain.now item.now) spec (number_named (set_named domain.now item.now) self.entry.now.book.now)) }
+        ensures { IfOk result (λ r. r ≡ read_set_by self.entry.now size (set_named domain.now item.now) spec
+            (number_named (set_named domain.now item.now) self.entry.now.book.now)) }
     {
         let name = set_name(alloc, domain, item)?;
         match self.book.number_named(&name) {

@@ -32,7 +32,8 @@ impl Model for MemberBytes {
 
     ghost view = { λ b. record { items = cut_at 0 b.ends.items b.octets.items; members = b.members; room = b.room } };
 
-    ghost invariant = { λ b. (vec_len b.octets ≤ b.room) × (b.room ≤ vec_capacity b.octets) × (vec_len b.ends ≤ b.members) × (b.members ≤ vec_capacity b.ends) × IsCut 0 b.ends.items b.octets.items };
+    ghost invariant = { λ b. (vec_len b.octets ≤ b.room) × (b.room ≤ vec_capacity b.octets) × (vec_len b.ends ≤ b.members)
+        × (b.members ≤ vec_capacity b.ends) × IsCut 0 b.ends.items b.octets.items };
 }
 
 impl MemberBytes {

@@ -4,7 +4,8 @@ ghost use Rattle.std.specs.Prelude.{true, ◌≡◌, ◌<◌, ◌≤◌, ◌^◌
 ghost use Rattle.bay_rooms.specs.declared.slot.Misfit.TheVariants as misfits;
 ghost use Rattle.sv_base.specs.Same.{is_same, is_same_bits};
 ghost use Rattle.sv_base.specs.declared.value.Value.TheVariants as values;
-ghost use Rattle.sv_base.specs.Kinds.{truth, int, uint, bits as bit_kind, time as time_kind, stamp as stamp_kind, text, octets as octet_kind, is_kind, is_in_range, kind_of};
+ghost use Rattle.sv_base.specs.Kinds.{truth, int, uint, bits as bit_kind, time as time_kind, stamp as stamp_kind, text, octets as octet_kind};
+ghost use Rattle.sv_base.specs.Kinds.{is_kind, is_in_range, kind_of};
 ghost use Rattle.bay_rooms.specs.Slots.{set_over, held_in, IsCell, IsSettable, IsWidth, type_width, type_most};
 
 use crate::fixed::Fixed;

@@ -28,8 +28,10 @@ fn load_noted(
     requires fit { IsLoadable store.old groups.now setting }
     requires flags { length store.old ≡ length (attributes model.now) }
     requires room { vec_len changes.old < vec_capacity changes.old }
-    ensures set { store.new ≡ slice_set store.old (setting_at groups.now setting).attr (with_value (active_of groups.now setting).value (attribute store.old (setting_at groups.now setting).attr)) }
-    ensures noted { changes.new.items ≡ changes.old.items ++ change_from model.now store.old (setting_at groups.now setting).attr (active_of groups.now setting).value ∷ [] }
+    ensures set { store.new ≡ slice_set store.old (setting_at groups.now setting).attr
+        (with_value (active_of groups.now setting).value (attribute store.old (setting_at groups.now setting).attr)) }
+    ensures noted { changes.new.items ≡ changes.old.items ++ change_from model.now store.old (setting_at groups.now setting).attr
+        (active_of groups.now setting).value ∷ [] }
     ensures room { vec_capacity changes.old ≤ vec_capacity changes.new }
 {
     let attr = groups.attr(setting);
@@ -57,7 +59,8 @@ fn load_once(
     requires noted { length changes.old.items ≡ marked_in marks.old }
     requires room { length store.old ≤ vec_capacity changes.old }
     ensures done { (before : List Stored) (later : List SettingValue)
-        → IsDone model.now before later store.old marks.old changes.old.items → IsDone model.now before (active_setting groups.now setting ∷ later) store.new marks.new changes.new.items }
+        → IsDone model.now before later store.old marks.old changes.old.items
+        → IsDone model.now before (active_setting groups.now setting ∷ later) store.new marks.new changes.new.items }
     ensures fit { AreLoadable store.old groups.now → AreLoadable store.new groups.now }
     ensures room { vec_capacity changes.old ≤ vec_capacity changes.new }
 {

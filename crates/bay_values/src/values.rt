@@ -85,7 +85,8 @@ fn set_once(
     requires noted { length changes.old.items ≡ marked_in marks.old }
     requires room { length store.old ≤ vec_capacity changes.old }
     ensures done { (before : List Stored) (later : List SettingValue)
-        → IsDone model.now before later store.old marks.old changes.old.items → IsDone model.now before (setting.now ∷ later) store.new marks.new changes.new.items }
+        → IsDone model.now before later store.old marks.old changes.old.items
+        → IsDone model.now before (setting.now ∷ later) store.new marks.new changes.new.items }
     ensures room { vec_capacity changes.old ≤ vec_capacity changes.new }
 {
     if !marks[setting.attr.0 as usize] {

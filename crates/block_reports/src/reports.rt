@@ -108,7 +108,8 @@ pub fn report_of(
     requires block { offer.now.block ≤ 4294967295 }
     requires few { length set.now ≤ 4294967295 }
     requires nodes { AreNodes model.now set.now }
-    ensures { IfOk result (λ r. (ks : List Kept) → AreKept (offered offer.now).entry.kept ks → r ≡ report_by (configured_model model.now) set.now part.now (offered offer.now) ks) }
+    ensures { IfOk result (λ r. (ks : List Kept) → AreKept (offered offer.now).entry.kept ks
+        → r ≡ report_by (configured_model model.now) set.now part.now (offered offer.now) ks) }
 {
     let members = members_in(alloc, model, set, &offer.entry, spare.members)?;
     let texts = Texts {

@@ -154,7 +154,8 @@ impl Watch {
         requires count { length self.old.options.items ≡ length self.old.index.blocks }
         ensures grown { IsRoomier self.old.index self.new.index }
         ensures kept { self.new ≡ record self.old { index = self.new.index } }
-        ensures made { OnOk result ((b : ℕ) → b < length self.old.index.blocks → pairs (shapes_of rows.now nodes.now) ≤ (block_at self.new.index.blocks b).room) }
+        ensures made { OnOk result ((b : ℕ) → b < length self.old.index.blocks
+            → pairs (shapes_of rows.now nodes.now) ≤ (block_at self.new.index.blocks b).room) }
     {
         let pairs = pairs_of(&SetView::new(nodes, rows))?;
         let Ok(blocks) = u32::try_from(self.options.len()) else {

@@ -29,14 +29,16 @@ pub fn blocks_stand()
         → Stands s c b before → Stands (after_deed b p.deed (front c b (p ∷ before)) s) c b (p ∷ before) }
     ensures accepted { (c : Model) (a : AssocNo) (b : ℕ) (comp : Comp) (v : Value) (step moment : ℕ) (before : Past) (s : Block)
         → Stands s c b before
-        → Stands (written a comp v (front c b (arrival step moment ∷ before)) s) c b (record { moment = moment; step = step; deed = wrote a.0 b comp v } ∷ before) }
+        → Stands (written a comp v (front c b (arrival step moment ∷ before)) s) c b
+        (record { moment = moment; step = step; deed = wrote a.0 b comp v } ∷ before) }
 {}
 
 /// A write is answered as it is where the block stands, with the entries that are there at its arrival.
 pub fn writes_are_answered()
     ensures { (c : Model) (a : AssocNo) (b : ℕ) (comp : Comp) (v : Value) (past : Past) (s : Block)
         → Stands s c b past
-        → outcome_of (wrote a.0 b comp v) (answer_to a comp v (names_nothing (kept_at c b past) (is_known c past v) comp v) s) ≡ write_component c a.0 b comp v past }
+        → outcome_of (wrote a.0 b comp v) (answer_to a comp v (names_nothing (kept_at c b past) (is_known c past v) comp v) s)
+        ≡ write_component c a.0 b comp v past }
 {}
 
 /// The report that is next to an association is that of the next entry where it has enabled the block, with its mark and
@@ -44,7 +46,8 @@ pub fn writes_are_answered()
 pub fn next_reports_are_told()
     ensures { (c : Model) (a : AssocNo) (b : ℕ) (past : Past) (s : Block)
         → Stands s c b past
-        → next_to a (kept_at c b past) s ≡ option_map (λ n. record { id = n; ovfl = is_overflown c b past; sq = sq_num b past }) (if is_enabled_by b a.0 past then next c b past else None) }
+        → next_to a (kept_at c b past) s ≡ option_map (λ n. record { id = n; ovfl = is_overflown c b past; sq = sq_num b past })
+        (if is_enabled_by b a.0 past then next c b past else None) }
 {}
 
 /// A component reads as it is where the block stands.

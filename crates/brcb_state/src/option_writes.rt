@@ -21,7 +21,8 @@ fn purging(differs: bool) -> Effect
 }
 
 impl Block {
-    ghost use Rattle.std.specs.Prelude.{◌≡◌, ◌==◌, ◌&&◌, ◌||◌, ◌^◌, ◌<◌, not, nat_lt, nat_le, length, ℕ, Bool, false, is_none, is_some, Result, Ok, Err, OnOk, OnErr, if◌then◌else◌};
+    ghost use Rattle.std.specs.Prelude.{◌≡◌, ◌==◌, ◌&&◌, ◌||◌, ◌^◌, ◌<◌, not, nat_lt, nat_le, length, ℕ, Bool, false, is_none, is_some, Result, Ok};
+    ghost use Rattle.std.specs.Prelude.{Err, OnOk, OnErr, if◌then◌else◌};
     ghost use Rattle.sv_base.specs.declared.value.Value.TheVariants as kinds;
     ghost use Rattle.sv_base.specs.declared.components.Comp.TheVariants as comps;
     ghost use Rattle.bay_model.specs.Parameters.{next_revision};

@@ -51,7 +51,14 @@ impl Model for Options {
 
     ghost Value = { Parameters };
 
-    ghost view = { λ o. record { rpt_id = o.rpt_id.items; dat_set = o.dat_set.items; opt_flds = o.opt_flds.items; buf_tm = o.buf_tm; trg_ops = o.trg_ops.items; intg_pd = o.intg_pd } };
+    ghost view = { λ o. record {
+      rpt_id = o.rpt_id.items;
+      dat_set = o.dat_set.items;
+      opt_flds = o.opt_flds.items;
+      buf_tm = o.buf_tm;
+      trg_ops = o.trg_ops.items;
+      intg_pd = o.intg_pd;
+    } };
 
     ghost invariant = { λ o. (129 ≤ o.rpt_id.room) × (129 ≤ o.dat_set.room) × (length o.opt_flds.items ≡ 10) × (length o.trg_ops.items ≡ 6) };
 }

@@ -127,7 +127,8 @@ impl Block {
     }
 
     fn resume(&mut self, n: u64, kept: Retained) -> Result<Effect, u8>
-        ensures answer { result ≡ (if is_some self.old.enabler then Err 2 else (if is_retained_or_zero kept.front kept.len n then Ok effects.Nothing else Err 11)) }
+        ensures answer { result ≡ (if is_some self.old.enabler then Err 2 else
+            (if is_retained_or_zero kept.front kept.len n then Ok effects.Nothing else Err 11)) }
         ensures written { OnOk result (self.new ≡ record self.old { cursor = if n == 0 then min self.old.cursor kept.front else n }) }
         ensures unchanged { OnErr result (self.new ≡ self.old) }
     {
@@ -142,7 +143,8 @@ impl Block {
     }
 
     fn resume_at(&mut self, a: AssocNo, octets: &[u8], kept: Retained) -> Result<Effect, u8>
-        ensures answer { result ≡ answer_to a comps.EntryID (kinds.Octets octets.now) (names_nothing kept false comps.EntryID (kinds.Octets octets.now)) self.old }
+        ensures answer { result ≡ answer_to a comps.EntryID (kinds.Octets octets.now)
+            (names_nothing kept false comps.EntryID (kinds.Octets octets.now)) self.old }
         ensures written { OnOk result (self.new ≡ written a comps.EntryID (kinds.Octets octets.now) kept.front self.old) }
         ensures unchanged { OnErr result (self.new ≡ self.old) }
     {

@@ -168,7 +168,8 @@ fn push_parameter(
 
 /// What a control that is selected first has besides under CF.
 fn push_selection(alloc: Global, keys: &mut Vec<Vec<u8>>, front: &[u8]) -> Result<(), AllocError>
-    ensures { OnOk result (map octets_of keys.new.items ≡ map octets_of keys.old.items ++ map (λ part. below_front front.now part) (parameter_name SboTimeout ∷ parameter_name SboClass ∷ [])) }
+    ensures { OnOk result (map octets_of keys.new.items ≡ map octets_of keys.old.items ++ map (λ part. below_front front.now part)
+        (parameter_name SboTimeout ∷ parameter_name SboClass ∷ [])) }
 {
     push_parameter(alloc, keys, front, CtlParameter::SboTimeout)?;
     push_parameter(alloc, keys, front, CtlParameter::SboClass)?;

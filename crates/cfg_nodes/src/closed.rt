@@ -6,7 +6,8 @@ ghost use Rattle.sv_base.specs.declared.ctl_services.CtlService.TheVariants as s
 ghost use Rattle.sv_base.specs.CtlServices.{service_name};
 ghost use Rattle.cfg_lines.specs.Claims.{operations, group_key as group_key_of};
 ghost use Rattle.cfg_lines.specs.Paths.{below as below_front, item_key as item_key_of};
-ghost use Rattle.cfg_lines.specs.Nodes.{all_below, with_parts, block_parts, group_parts, operation_parts, operations_below, twins, closed_by, closed as closed_before};
+ghost use Rattle.cfg_lines.specs.Nodes.{all_below, with_parts, block_parts, group_parts, operation_parts, operations_below, twins, closed_by};
+ghost use Rattle.cfg_lines.specs.Nodes.{closed as closed_before};
 
 use cfg_lines::{Line, below, group_key, item_key};
 use std::alloc::{AllocError, Global};
@@ -83,7 +84,9 @@ fn push_selection(
     select: CtlService,
     parts: &[CallPart],
 ) -> Result<(), AllocError>
-    ensures { OnOk result (names.new.items ≡ names.old.items ++ (with_parts (below_front front.now (service_name select)) (map part_name parts.now) ++ with_parts (below_front front.now (service_name services.Cancel)) (operation_parts (service_name services.Cancel)))) }
+    ensures { OnOk result (names.new.items ≡ names.old.items ++
+        (with_parts (below_front front.now (service_name select)) (map part_name parts.now) ++ with_parts
+        (below_front front.now (service_name services.Cancel)) (operation_parts (service_name services.Cancel)))) }
 {
     push_operation(alloc, names, front, select, parts)?;
     push_operation(alloc, names, front, CtlService::Cancel, &CallPart::ALL[..6])?;
@@ -116,7 +119,8 @@ fn push_operations(
 }
 
 fn push_control(alloc: Global, names: &mut Vec<Octs>, control: &CtlDef) -> Result<(), AllocError>
-    ensures { OnOk result (names.new.items ≡ names.old.items ++ operations_below (item_key_of control.now.domain control.now.ln (codes "CO") control.now.path) (operations control.now.model)) }
+    ensures { OnOk result (names.new.items ≡ names.old.items ++ operations_below
+        (item_key_of control.now.domain control.now.ln (codes "CO") control.now.path) (operations control.now.model)) }
 {
     let front = item_key(
         alloc,
@@ -146,7 +150,8 @@ fn push_twin(alloc: Global, names: &mut Vec<Octs>, attr: &AttrDef) -> Result<(),
 }
 
 fn push_block(alloc: Global, names: &mut Vec<Octs>, block: &BlockDef) -> Result<(), AllocError>
-    ensures { OnOk result (names.new.items ≡ names.old.items ++ with_parts (item_key_of block.now.domain block.now.ln (codes "BR") block.now.name) block_parts) }
+    ensures { OnOk result (names.new.items ≡ names.old.items ++ with_parts
+        (item_key_of block.now.domain block.now.ln (codes "BR") block.now.name) block_parts) }
 {
     let node = item_key(
         alloc,

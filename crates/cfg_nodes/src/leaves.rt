@@ -72,7 +72,8 @@ fn push_attribute<'a>(
 ) -> Result<(), AllocError>
     requires spot { IsRight asked.now spot.old }
     ensures spot { OnOk result (IsRight asked.now spot.new) }
-    ensures leaves { OnOk result (leaves.new ≡ leaves.old ++ wanted asked.now ((record { name = item_key_of attr.now.domain attr.now.ln attr.now.fc attr.now.path; octets = most_octets_of attr.now.kind }) ∷ [])) }
+    ensures leaves { OnOk result (leaves.new ≡ leaves.old ++ wanted asked.now
+        ((record { name = item_key_of attr.now.domain attr.now.ln attr.now.fc attr.now.path; octets = most_octets_of attr.now.kind }) ∷ [])) }
 {
     spot.turn_to(room, asked, attr.domain.as_slice(), attr.ln.as_slice())?;
     if !spot.is_wanted {
@@ -95,7 +96,8 @@ fn push_setting(
     front: &[u8],
     parameter: CtlParameter,
 ) -> Result<(), AllocError>
-    ensures { OnOk result (leaves.new ≡ leaves.old ++ wanted asked.now ((record { name = below_front front.now (parameter_name parameter); octets = most_octets_of (parameter_kind parameter) }) ∷ [])) }
+    ensures { OnOk result (leaves.new ≡ leaves.old ++ wanted asked.now
+        ((record { name = below_front front.now (parameter_name parameter); octets = most_octets_of (parameter_kind parameter) }) ∷ [])) }
 {
     let octets = most_octets(&parameter.kind());
     let name = below(alloc, front, parameter.name())?;
@@ -109,7 +111,8 @@ fn push_selection(
     asked: &Asked,
     front: &[u8],
 ) -> Result<(), AllocError>
-    ensures { OnOk result (leaves.new ≡ leaves.old ++ wanted asked.now (map (setting_leaf front.now) (parameter_name SboTimeout ∷ parameter_name SboClass ∷ []))) }
+    ensures { OnOk result (leaves.new ≡ leaves.old ++ wanted asked.now
+        (map (setting_leaf front.now) (parameter_name SboTimeout ∷ parameter_name SboClass ∷ []))) }
 {
     push_setting(alloc, leaves, asked, front, CtlParameter::SboTimeout)?;
     push_setting(alloc, leaves, asked, front, CtlParameter::SboClass)?;
@@ -142,7 +145,8 @@ fn push_control(
     asked: &Asked,
     control: &CtlDef,
 ) -> Result<(), AllocError>
-    ensures { OnOk result (leaves.new ≡ leaves.old ++ wanted asked.now (map (setting_leaf (item_key_of control.now.domain control.now.ln (codes "CF") control.now.path)) (settings control.now.model))) }
+    ensures { OnOk result (leaves.new ≡ leaves.old ++ wanted asked.now
+        (map (setting_leaf (item_key_of control.now.domain control.now.ln (codes "CF") control.now.path)) (settings control.now.model))) }
 {
     let front = item_key(
         alloc,

@@ -43,7 +43,8 @@ fn above_of(alloc: Global, names: &[Octs]) -> Result<Keys, AllocError>
 /// The nodes of some leaves, by their octets and by their parts.
 fn of_leaves<'a>(alloc: Global, leaves: &'a Leaves) -> Result<(Sizes<'a>, Parts<'a>), AllocError>
     ensures sizes { IfOk result (λ both. both.0.leaves.now ≡ leaves.now) }
-    ensures structures { IfOk result (λ both. (node : List ℕ) → is_among both.1.structures node ≡ list_any (λ name. is_among (above name) node) (map (λ leaf. leaf.name) leaves.now)) }
+    ensures structures { IfOk result (λ both. (node : List ℕ)
+        → is_among both.1.structures node ≡ list_any (λ name. is_among (above name) node) (map (λ leaf. leaf.name) leaves.now)) }
     ensures parts { IfOk result (λ both. (node : List ℕ) → parts_in both.1 node ≡ children (map (λ leaf. leaf.name) leaves.now) node) }
 {
     let octets = leaves.len().saturating_mul(32);
@@ -75,8 +76,10 @@ impl<'a> Nodes<'a> {
     /// found as if all were there.
     pub fn of(alloc: Global, lines: &[Line], leaves: &'a Leaves) -> Result<Self, AllocError>
         requires { leaves.now ≡ wanted (asked (reverse lines.now)) (leaves_before (reverse lines.now)) }
-        ensures nodes { IfOk result (λ nodes. (node : List ℕ) → is_among (asked (reverse lines.now)) node ≡ true → is_node_in nodes node ≡ is_node (reverse lines.now) node) }
-        ensures members { IfOk result (λ nodes. (node : List ℕ) → is_among (asked (reverse lines.now)) node ≡ true → is_member_in nodes node ≡ is_member_node (reverse lines.now) node) }
+        ensures nodes { IfOk result (λ nodes. (node : List ℕ) → is_among (asked (reverse lines.now)) node ≡ true
+            → is_node_in nodes node ≡ is_node (reverse lines.now) node) }
+        ensures members { IfOk result (λ nodes. (node : List ℕ) → is_among (asked (reverse lines.now)) node ≡ true
+            → is_member_in nodes node ≡ is_member_node (reverse lines.now) node) }
     {
         let closed = above_of(alloc, &closed_of(alloc, lines)?)?;
         let (sizes, parts) = of_leaves(alloc, leaves)?;

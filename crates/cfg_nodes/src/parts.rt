@@ -41,7 +41,8 @@ impl<'a> Parts<'a> {
         requires within { IsWithin self.old above }
         ensures structures { OnOk result (self.new.structures ≡ self.old.structures) }
         ensures even { OnOk result (length self.new.parts.items ≡ length self.old.parts.items) }
-        ensures parts { OnOk result ((front : Option (List ℕ)) → IsPlaced self.old front above → (other : List ℕ) → parts_in self.new other ≡ with_part other (parts_in self.old other) front part.now) }
+        ensures parts { OnOk result ((front : Option (List ℕ)) → IsPlaced self.old front above → (other : List ℕ)
+            → parts_in self.new other ≡ with_part other (parts_in self.old other) front part.now) }
     {
         if let Some(place) = above {
             self.parts[place].add(part)?;
@@ -82,7 +83,8 @@ impl<'a> Parts<'a> {
         ensures place { IfOk result (λ place. place_in self.new.structures node.now ≡ Some place) }
         ensures among { OnOk result ((q : List ℕ) → is_among self.new.structures q ≡ (bytes_eq q node.now || is_among self.old.structures q)) }
         ensures even { OnOk result (length self.new.parts.items ≡ length self.new.structures) }
-        ensures parts { OnOk result ((front : Option (List ℕ)) → IsPlaced self.old front above → (other : List ℕ) → parts_in self.new other ≡ with_part other (parts_in self.old other) front node.now) }
+        ensures parts { OnOk result ((front : Option (List ℕ)) → IsPlaced self.old front above → (other : List ℕ)
+            → parts_in self.new other ≡ with_part other (parts_in self.old other) front node.now) }
     {
         self.add_part(above, node)?;
         let place = self.place_of(alloc, hash, node)?;

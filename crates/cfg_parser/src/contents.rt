@@ -4,7 +4,9 @@ ghost use Rattle.std.specs.Prelude.{◌≡◌, ◌<◌, length, map, IfOk, optio
 ghost use Rattle.text_words.specs.Words.{texts};
 ghost use Rattle.cfg_lines.specs.Before.{domain_of, node_of};
 ghost use Rattle.cfg_parser.specs.Reader.{Gives};
-ghost use Rattle.cfg_parser.specs.Contents.{config_at, domain_at, node_at, set_at, member_at, typed_at, attribute_at, block_texts_at, block_options_at, block_triggers_at, block_fields_at, block_at, control_type_at, model_of as model_number, control_fields_at, control_at, group_fields_at, groups_at};
+ghost use Rattle.cfg_parser.specs.Contents.{config_at, domain_at, node_at, set_at, member_at, typed_at, attribute_at, block_texts_at};
+ghost use Rattle.cfg_parser.specs.Contents.{block_options_at, block_triggers_at, block_fields_at, block_at, control_type_at};
+ghost use Rattle.cfg_parser.specs.Contents.{model_of as model_number, control_fields_at, control_at, group_fields_at, groups_at};
 
 use crate::fault::{Kind, LineFault};
 use cfg_lines::{Line, control_keys, group_key, item_key, node_item, node_key, put_item_key};
@@ -249,7 +251,8 @@ pub struct BlockWords<'a> {
 /// The numbers and values of a report control block.
 #[tactic(auto, unfolding(crate::specs::Contents::block_fields_at))]
 fn block_fields(alloc: Global, before: &Reading, words: BlockWords<'_>) -> Result<Line, LineFault>
-    ensures { Gives result (block_fields_at before.now words.entry.name.now words.entry.rpt_id.now words.entry.dat_set.now words.entry.conf_rev.now words.entry.opt_flds.now words.entry.buf_tm.now words.entry.trg_ops.now words.entry.intg_pd.now words.entry.capacity.now) }
+    ensures { Gives result (block_fields_at before.now words.entry.name.now words.entry.rpt_id.now words.entry.dat_set.now
+        words.entry.conf_rev.now words.entry.opt_flds.now words.entry.buf_tm.now words.entry.trg_ops.now words.entry.intg_pd.now words.entry.capacity.now) }
 {
     let (rpt_id, dat_set) = block_texts(alloc, words.rpt_id, words.dat_set)?;
     let (conf_rev, opt_flds, buf_tm) = block_options(
@@ -283,7 +286,8 @@ fn block_fields(alloc: Global, before: &Reading, words: BlockWords<'_>) -> Resul
 /// `brcb` and what describes a report control block.
 #[tactic(auto, unfolding(crate::specs::Contents::block_at))]
 pub fn block_line(alloc: Global, before: &Reading, words: BlockWords<'_>) -> Result<Line, LineFault>
-    ensures { Gives result (block_at before.now words.entry.name.now words.entry.rpt_id.now words.entry.dat_set.now words.entry.conf_rev.now words.entry.opt_flds.now words.entry.buf_tm.now words.entry.trg_ops.now words.entry.intg_pd.now words.entry.capacity.now) }
+    ensures { Gives result (block_at before.now words.entry.name.now words.entry.rpt_id.now words.entry.dat_set.now
+        words.entry.conf_rev.now words.entry.opt_flds.now words.entry.buf_tm.now words.entry.trg_ops.now words.entry.intg_pd.now words.entry.capacity.now) }
 {
     if !is_name(words.name) {
         return Err(LineFault::Refused(Kind::Name));

@@ -6,7 +6,14 @@ ghost use Rattle.std.specs.Str.{bytes_eq};
 ghost use Rattle.text_words.specs.Names.{is_dollar};
 ghost use Rattle.cfg_lines.specs.Before.{place_of, node_of, has_settings};
 ghost use Rattle.text_words.specs.Words.{texts};
-ghost use Rattle.cfg_parser.specs.Judging.{is_long_item as long_item, is_long_control as long_control, is_long_attribute as long_attribute, is_long_set as long_set, is_long_block as long_block, is_long_member as long_member, has_long as has_long_word, control_octets as octets_of_control, counts as count_fits, attribute_counts as attribute_count_fits, may_stand as stands, has_groups as has_groups_for, is_in_node as in_node, is_in_domain as in_domain, is_in_set as in_set, is_open as open_at, is_start as start_at, is_configured as configured_at, is_deep as deep, is_deep_attribute as deep_attribute, is_deep_member as deep_member, has_many as has_as_many, is_full as full};
+ghost use Rattle.cfg_parser.specs.Judging.{is_long_item as long_item, is_long_control as long_control, is_long_attribute as long_attribute};
+ghost use Rattle.cfg_parser.specs.Judging.{is_long_set as long_set, is_long_block as long_block, is_long_member as long_member};
+ghost use Rattle.cfg_parser.specs.Judging.{has_long as has_long_word, control_octets as octets_of_control, counts as count_fits};
+ghost use Rattle.cfg_parser.specs.Judging.{attribute_counts as attribute_count_fits, may_stand as stands, has_groups as has_groups_for};
+ghost use Rattle.cfg_parser.specs.Judging.{is_in_node as in_node, is_in_domain as in_domain, is_in_set as in_set, is_open as open_at};
+ghost use Rattle.cfg_parser.specs.Judging.{is_start as start_at, is_configured as configured_at, is_deep as deep};
+ghost use Rattle.cfg_parser.specs.Judging.{is_deep_attribute as deep_attribute, is_deep_member as deep_member, has_many as has_as_many};
+ghost use Rattle.cfg_parser.specs.Judging.{is_full as full};
 
 use crate::keyword::Keyword;
 use cfg_lines::Place;

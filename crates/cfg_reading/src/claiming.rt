@@ -22,7 +22,8 @@ pub fn add_node(alloc: Global, heads: &mut Keys, node: &LnDef) -> Result<(), All
 
 /// Adds the reference of a data set.
 pub fn add_set(alloc: Global, sets: &mut Keys, set: &SetDef) -> Result<(), AllocError>
-    ensures { OnOk result ((key : List ℕ) → is_among sets.new key ≡ (bytes_eq key (below (node_key_of set.now.domain set.now.ln) set.now.name) || is_among sets.old key)) }
+    ensures { OnOk result ((key : List ℕ) → is_among sets.new key ≡
+        (bytes_eq key (below (node_key_of set.now.domain set.now.ln) set.now.name) || is_among sets.old key)) }
 {
     let key = node_item(
         alloc,
@@ -40,7 +41,8 @@ pub fn add_attribute(
     names: &mut Names,
     attr: &AttrDef,
 ) -> Result<(), AllocError>
-    ensures { OnOk result ((q : List ℕ) → is_taken names.new q ≡ (clashes q (item_key_of attr.now.domain attr.now.ln attr.now.fc attr.now.path) || is_taken names.old q)) }
+    ensures { OnOk result ((q : List ℕ) → is_taken names.new q ≡
+        (clashes q (item_key_of attr.now.domain attr.now.ln attr.now.fc attr.now.path) || is_taken names.old q)) }
 {
     put_item_key(
         room,
@@ -54,7 +56,8 @@ pub fn add_attribute(
 
 /// Adds the path of a report control block.
 pub fn add_block(alloc: Global, names: &mut Names, block: &BlockDef) -> Result<(), AllocError>
-    ensures { OnOk result ((q : List ℕ) → is_taken names.new q ≡ (clashes q (item_key_of block.now.domain block.now.ln (codes "BR") block.now.name) || is_taken names.old q)) }
+    ensures { OnOk result ((q : List ℕ) → is_taken names.new q ≡
+        (clashes q (item_key_of block.now.domain block.now.ln (codes "BR") block.now.name) || is_taken names.old q)) }
 {
     let key = item_key(
         alloc,
@@ -68,7 +71,8 @@ pub fn add_block(alloc: Global, names: &mut Names, block: &BlockDef) -> Result<(
 
 /// Adds the paths of a control.
 pub fn add_control(alloc: Global, names: &mut Names, control: &CtlDef) -> Result<(), AllocError>
-    ensures { OnOk result ((q : List ℕ) → is_taken names.new q ≡ (is_taken (control_keys_of control.now.domain control.now.ln control.now.path control.now.model) q || is_taken names.old q)) }
+    ensures { OnOk result ((q : List ℕ) → is_taken names.new q ≡
+        (is_taken (control_keys_of control.now.domain control.now.ln control.now.path control.now.model) q || is_taken names.old q)) }
 {
     let keys = control_keys(
         alloc,

@@ -32,7 +32,9 @@ impl Model for Reading {
 
 impl Reading {
     ghost use Rattle.std.specs.Prelude.{◌≡◌, ◌≤◌, ◌<◌, ◌∷◌, [], length, IfOk, OnOk};
-    ghost use Rattle.cfg_lines.specs.Before.{number_of, place_of, domain_of, node_of, groups_of, has_settings as has_settings_before, domains as domains_before, nodes as nodes_before, attributes as attributes_before, sets as sets_before, members as members_before, blocks as blocks_before, controls as controls_before};
+    ghost use Rattle.cfg_lines.specs.Before.{number_of, place_of, domain_of, node_of, groups_of, has_settings as has_settings_before};
+    ghost use Rattle.cfg_lines.specs.Before.{domains as domains_before, nodes as nodes_before, attributes as attributes_before, sets as sets_before};
+    ghost use Rattle.cfg_lines.specs.Before.{members as members_before, blocks as blocks_before, controls as controls_before};
     ghost use Rattle.std.specs.Prelude.{map, reverse};
     ghost use Rattle.std.specs.List.{list_any};
     ghost use Rattle.cfg_lines.specs.Keys.{is_among, octets_of};

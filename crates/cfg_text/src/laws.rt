@@ -13,7 +13,8 @@ ghost use Rattle.cfg_writing.specs.Written.{written};
 /// Behind lines of the format a line is read as what it tells exactly where it is a line of the format that may stand there.
 pub fn lines_are_read_as_the_format_has_them()
     ensures read { (before : List Line) (text : List ℕ) (line : Line) → IsLine before text line → line_at before text ≡ Ok line }
-    ensures told { (front : List ℕ) (before : List Line) (text : List ℕ) (line : Line) → AreLines front before → line_at before text ≡ Ok line → IsLine before text line }
+    ensures told { (front : List ℕ) (before : List Line) (text : List ℕ) (line : Line) → AreLines front before → line_at before text ≡ Ok line
+        → IsLine before text line }
 {}
 
 /// A text is read as a configuration exactly where it spells it.

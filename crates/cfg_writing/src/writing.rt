@@ -2,7 +2,8 @@
 
 ghost use Rattle.std.specs.Prelude.{◌≡◌, ◌++◌, List, ℕ, [], map, IfOk, OnOk};
 ghost use Rattle.cfg_lines.specs.declared.line.Line.TheVariants.{Ln, Attr, Set, Brcb, Ctl, Sgcb};
-ghost use Rattle.cfg_writing.specs.Written.{number, domain as domain_of, objects as objects_of, in_order, with_members, heading, with_domains, text_of, written};
+ghost use Rattle.cfg_writing.specs.Written.{number, domain as domain_of, objects as objects_of, in_order, with_members, heading, with_domains};
+ghost use Rattle.cfg_writing.specs.Written.{text_of, written};
 ghost use Rattle.cfg_writing.specs.Objects.{line_of};
 
 use crate::spelling::{

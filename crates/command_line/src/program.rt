@@ -28,7 +28,8 @@ impl Program {
     pub fn shown(&self, words: &[String]) -> Option<&'static str>
         ensures usage { IsWord (codes "-h") words.now ⊎ IsWord (codes "--help") words.now → result ≡ Some self.now.usage }
         ensures version { IsWord (codes "--version") words.now → result ≡ Some self.now.version }
-        ensures none { IfNone result ((IsWord (codes "-h") words.now → ⊥) × (IsWord (codes "--help") words.now → ⊥) × (IsWord (codes "--version") words.now → ⊥)) }
+        ensures none { IfNone result ((IsWord (codes "-h") words.now → ⊥) × (IsWord (codes "--help") words.now → ⊥)
+            × (IsWord (codes "--version") words.now → ⊥)) }
         ensures some { IfSome result (λ t. IsWord (codes "-h") words.now ⊎ (IsWord (codes "--help") words.now ⊎ IsWord (codes "--version") words.now)) }
     {
         if is_word(words, "-h") || is_word(words, "--help") {

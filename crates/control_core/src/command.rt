@@ -47,7 +47,8 @@ ghost use Rattle.sv_base.specs.Seen.{seen_of, row_of};
 ghost use Rattle.bay_model.specs.Model.{operate};
 ghost use Rattle.sv_base.specs.Kinds.{is_kind, is_in_range};
 ghost use Rattle.bay_model.specs.Commands.{command_of as command_in, is_command, is_rest};
-ghost use Rattle.control_core.specs.Commands.{int_in, octets_in, uint_in, time_in, bool_in, kind_in, origin_row, origin_in, parts_in, said_in, of_kind, seen_val, rest_checked, said, value_said, is_limited};
+ghost use Rattle.control_core.specs.Commands.{int_in, octets_in, uint_in, time_in, bool_in, kind_in, origin_row, origin_in, parts_in, said_in};
+ghost use Rattle.control_core.specs.Commands.{of_kind, seen_val, rest_checked, said, value_said, is_limited};
 
 fn int_of(value: &Value) -> Option<i64>
     ensures { result ≡ int_in (seen_of value.now) }

@@ -54,7 +54,18 @@ impl Model for Control {
 
     ghost coded = { Prim.hlevel (codes, row_code, seen_code, phase_code, kind_code) };
 
-    ghost view = { λ s. record { config = record { reference = s.reference; model = s.model; timeout = s.timeout; sbo_class = s.class; kind = kind_in s.kind }; selection = s.selected; execution = s.executed; is_blocked = s.is_blocked } };
+    ghost view = { λ s. record {
+      config = record {
+        reference = s.reference;
+        model = s.model;
+        timeout = s.timeout;
+        sbo_class = s.class;
+        kind = kind_in s.kind;
+      };
+      selection = s.selected;
+      execution = s.executed;
+      is_blocked = s.is_blocked;
+    } };
 }
 
 /// `LD/LN$CO$DO`.
@@ -91,7 +102,9 @@ impl Control {
     ghost use Rattle.control_core.specs.Opening.{IsCtlKind, IsNumber};
     ghost use Rattle.control_core.specs.Commands.{said, command_said, value_said, seen_val};
     ghost use Rattle.bay_model.specs.Selections.{without_a};
-    ghost use Rattle.control_core.specs.Controls.{idle, causes_at, went_at, can_select_at, selected_by, cancelled_by, operated_by, done as done_to, due as due_in, lost_by, stopped, blocked_as, is_selectable as is_selectable_in, is_enhanced as is_enhanced_in, error_at, terminations, begun, renewed};
+    ghost use Rattle.control_core.specs.Controls.{idle, causes_at, went_at, can_select_at, selected_by, cancelled_by, operated_by, done as done_to};
+    ghost use Rattle.control_core.specs.Controls.{due as due_in, lost_by, stopped, blocked_as, is_selectable as is_selectable_in};
+    ghost use Rattle.control_core.specs.Controls.{is_enhanced as is_enhanced_in, error_at, terminations, begun, renewed};
     ghost use Rattle.sv_base.specs.Same.{value_of};
     ghost use Rattle.control_core.specs.declared.control.Went.TheVariants as outcomes;
     ghost use Rattle.control_core.specs.Answers.{went_of, effect_in, effect_at};
@@ -254,7 +267,10 @@ impl Control {
 
     /// The selection after an accepted Oper.
     fn use_selection(&mut self, now: Moment, a: AssocNo)
-        ensures { self.new ≡ record self.old { selection = if self.old.config.sbo_class == 0 then without_a a.0 self.old.selection else renewed a.0 now self.old.selection } }
+        ensures { self.new ≡ record self.old {
+          selection = if self.old.config.sbo_class == 0 then without_a a.0 self.old.selection
+              else renewed a.0 now self.old.selection;
+        } }
     {
         if self.class == 0 {
             self.selected.end(a);
@@ -269,7 +285,10 @@ impl Control {
         requires short { length command.now.origin.ident.now ≤ 64 }
         requires few { command.now.ctl_num < 256 }
         requires checked { is_rest operate_call (row_of command.now.rest.now) ≡ true }
-        ensures { self.new ≡ record self.old { execution = if is_enhanced_in self.old then Some (begun a.0 (value_said (said command.now))) else self.old.execution } }
+        ensures { self.new ≡ record self.old {
+          execution = if is_enhanced_in self.old then Some
+              (begun a.0 (value_said (said command.now))) else self.old.execution;
+        } }
     {
         if self.is_enhanced() {
             self.executed.begin(a, command);

@@ -129,7 +129,8 @@ impl Controls {
     pub fn select(&mut self, c: CtlNo, a: AssocNo) -> bool
         requires { c.0 < length self.old.controls }
         ensures answer { result ≡ can_select_at self.old.moment (control_at self.old.controls c.0) }
-        ensures left { self.new ≡ (if can_select_at self.old.moment (control_at self.old.controls c.0) then after_deed (selected_control a.0 c.0) self.old else self.old) }
+        ensures left { self.new ≡ (if can_select_at self.old.moment (control_at self.old.controls c.0) then
+            after_deed (selected_control a.0 c.0) self.old else self.old) }
     {
         self.controls[c.0 as usize].select(self.moment, a)
     }

@@ -41,7 +41,15 @@ impl Model for KeptCommand {
 
     ghost coded = { Prim.hlevel (codes, row_code, seen_code) };
 
-    ghost view = { λ o. record { value = seen_val o.value; or_cat = o.or_cat; or_ident = o.or_ident.items; ctl_num = o.ctl_num; at = o.time; test = o.test; rest = rest_checked o.check } };
+    ghost view = { λ o. record {
+      value = seen_val o.value;
+      or_cat = o.or_cat;
+      or_ident = o.or_ident.items;
+      ctl_num = o.ctl_num;
+      at = o.time;
+      test = o.test;
+      rest = rest_checked o.check;
+    } };
 
     ghost invariant = { λ o. o.or_ident.room ≡ 64 };
 }

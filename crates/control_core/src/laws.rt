@@ -21,9 +21,12 @@ ghost use Rattle.control_core.specs.Standing.{Stands, put_for, point_of};
 /// stand for its arrival, after what came of it for the point, and after a further moment of the same step for that.
 pub fn controls_stand()
     ensures opened { (c : Model) → Stands (opened_of c.controls) c [] }
-    ensures arrival { (c : Model) (n m : ℕ) (before : Past) (t : Table) → Stands t c before → Stands (at_moment (now (arrival n m ∷ before)) t) c (arrival n m ∷ before) }
-    ensures deed { (c : Model) (n m : ℕ) (d : Deed) (before : Past) (t : Table) → Stands t c (arrival n m ∷ before) → Stands (after_deed d t) c (point_of n m d ∷ before) }
-    ensures again { (c : Model) (n m : ℕ) (q : Point) (before : Past) (t : Table) → m ≤ now (q ∷ before) → Stands t c (q ∷ before) → Stands t c (arrival n m ∷ q ∷ before) }
+    ensures arrival { (c : Model) (n m : ℕ) (before : Past) (t : Table) → Stands t c before
+        → Stands (at_moment (now (arrival n m ∷ before)) t) c (arrival n m ∷ before) }
+    ensures deed { (c : Model) (n m : ℕ) (d : Deed) (before : Past) (t : Table) → Stands t c (arrival n m ∷ before)
+        → Stands (after_deed d t) c (point_of n m d ∷ before) }
+    ensures again { (c : Model) (n m : ℕ) (q : Point) (before : Past) (t : Table) → m ≤ now (q ∷ before) → Stands t c (q ∷ before)
+        → Stands t c (arrival n m ∷ q ∷ before) }
 {}
 
 /// Calls come to what they come to where the controls stand; the relation of what they come to gives that one outcome.

@@ -226,7 +226,9 @@ impl SetBook {
     ghost use Rattle.std.specs.Prelude.{◌≡◌, ◌==◌, ◌<◌, ◌≤◌, ◌-◌, IfOk, length};
     ghost use Rattle.name_order.specs.Sorting.{names_above};
     ghost use Rattle.set_view.specs.Shapes.{AreThere, shapes_of};
-    ghost use Rattle.data_sets.specs.Books.{AreTargets, IsSet, nodes_in, largest, opened, number_named, number_referred, set_at, define_fault as define_fault_of, deletion as deletion_in, with_set, after_delete, after_hold, after_release, items_in};
+    ghost use Rattle.data_sets.specs.Books.{AreTargets, IsSet, nodes_in, largest, opened, number_named, number_referred, set_at};
+    ghost use Rattle.data_sets.specs.Books.{define_fault as define_fault_of, deletion as deletion_in, with_set, after_delete, after_hold};
+    ghost use Rattle.data_sets.specs.Books.{after_release, items_in};
 
     /// The configured data sets, which no report block names, and room for 64 that clients define.
     pub fn open(alloc: Global, sets: &SetTable) -> Result<SetBook, AllocError>

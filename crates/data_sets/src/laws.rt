@@ -82,7 +82,8 @@ pub fn opened_books_stand()
 pub fn holds_are_uses()
     ensures used { (b : Book) (c : Model) (k : ℕ) (past : Past) → Stands b c past → k < length b.sets
         → nat_lt 0 (set_at b k).holds ≡ in_use_from c past (reference (set_at b k)) 0 c.blocks }
-    ensures few { (b : Book) (n k : ℕ) (all : List DataSet) (used : List (List ℕ)) → StandsFor b n all used → k < length b.sets → (set_at b k).holds ≤ length used }
+    ensures few { (b : Book) (n k : ℕ) (all : List DataSet) (used : List (List ℕ)) → StandsFor b n all used → k < length b.sets
+        → (set_at b k).holds ≤ length used }
 {}
 
 /// What clients may make a server hold: at most 64 sets, each of at most 256 nodes and with a name of at most 64 octets.

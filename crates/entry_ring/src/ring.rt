@@ -34,7 +34,13 @@ impl Model for Ring {
 
     ghost Value = { Ringed };
 
-    ghost view = { λ r. record { capacity = r.room.capacity; newest = r.newest; newest_moment = r.newest_moment; front = r.newest - length r.room.entries; entries = r.room.entries } };
+    ghost view = { λ r. record {
+      capacity = r.room.capacity;
+      newest = r.newest;
+      newest_moment = r.newest_moment;
+      front = r.newest - length r.room.entries;
+      entries = r.room.entries;
+    } };
 
     ghost invariant = { λ r. length r.room.entries ≤ r.newest };
 }

@@ -113,7 +113,11 @@ impl Room {
     /// Adds an entry that fits. It takes no memory.
     pub fn push(&mut self, moment: Moment, step: u64, kept: &[u8])
         requires { sizes self.old.entries + (24 + length kept.now) ≤ self.old.capacity }
-        ensures { self.new ≡ record { capacity = self.old.capacity; entries = self.old.entries ++ record { moment = moment; step = step; kept = kept.now } ∷ [] } }
+        ensures { self.new ≡ record {
+          capacity = self.old.capacity;
+          entries = self.old.entries
+              ++ record { moment = moment; step = step; kept = kept.now } ∷ [];
+        } }
     {
         self.places.push_back(Place {
             moment,

@@ -7,7 +7,8 @@ ghost use Rattle.std.specs.Str.{bytes_eq};
 /// A name that is first found in a list is found there in the list with one more behind.
 pub fn a_name_more()
     ensures { (names : List (List ℕ)) (name other : List ℕ)
-        → position (bytes_eq other) (names ++ name ∷ []) ≡ option_or (position (bytes_eq other) names) (if bytes_eq other name then Some (length names) else None) }
+        → position (bytes_eq other) (names ++ name ∷ []) ≡ option_or (position (bytes_eq other) names)
+        (if bytes_eq other name then Some (length names) else None) }
 {}
 
 /// After an element is set, that place holds it, and each other what it held.

@@ -11,7 +11,8 @@ ghost use Rattle.mms_initiate.specs.InitiateOctets.{accepted, proposed, initiate
 
 /// Each input says one initiate that is accepted, by the tag of its PDU, or is refused for one cause, and never both.
 pub fn each_initiate_says_one_thing()
-    ensures answered { (tag : ℕ) (input : List ℕ) → IsBytes input → ((i : Initiate) × IsAccepted tag input i) ⊎ ((f : PduFault) × IsInitiateRefused tag input f) }
+    ensures answered { (tag : ℕ) (input : List ℕ) → IsBytes input → ((i : Initiate) × IsAccepted tag input i)
+        ⊎ ((f : PduFault) × IsInitiateRefused tag input f) }
     ensures unique { (tag : ℕ) (input : List ℕ) (i j : Initiate) → IsAccepted tag input i → IsAccepted tag input j → i ≡ j }
     ensures one_cause { (tag : ℕ) (input : List ℕ) (f g : PduFault) → IsBytes input → IsInitiateRefused tag input f → IsInitiateRefused tag input g → f ≡ g }
     ensures not_both { (tag : ℕ) (input : List ℕ) (i : Initiate) (f : PduFault) → IsBytes input → IsAccepted tag input i → IsInitiateRefused tag input f → ⊥ }

@@ -21,17 +21,21 @@ ghost use Rattle.mms_elements.specs.declared.tags.TheConstants.{CONCLUDE_RESPONS
 pub fn requests_are_read_back()
     ensures read { (invoke : ℕ) (d i : List ℕ) → invoke < 2 ^ 32 → AreVisible d → AreVisible i → length (read_request invoke d i) < 2 ^ 32
         → IsRequest (read_request invoke d i) (confirmed invoke (read (named_variable d i ∷ []) false)) }
-    ensures write { (invoke : ℕ) (d i : List ℕ) (v : Value) → invoke < 2 ^ 32 → AreVisible d → AreVisible i → HasNoOther v → depth v ≤ 10 → SeenHasFractions (seen_of v) → SeenIsOfTypes (seen_of v)
-        → length (write_request invoke d i v) < 2 ^ 32 → IsRequest (write_request invoke d i v) (confirmed invoke (write_vars (named_variable d i ∷ []) (seen_of v ∷ []))) }
+    ensures write { (invoke : ℕ) (d i : List ℕ) (v : Value) → invoke < 2 ^ 32 → AreVisible d → AreVisible i → HasNoOther v → depth v ≤ 10
+        → SeenHasFractions (seen_of v) → SeenIsOfTypes (seen_of v)
+        → length (write_request invoke d i v) < 2 ^ 32 → IsRequest (write_request invoke d i v)
+        (confirmed invoke (write_vars (named_variable d i ∷ []) (seen_of v ∷ []))) }
     ensures conclude { IsRequest conclude_request conclude }
 {}
 
 /// What a server sends spells that reply, which `reply` gives back; a report has the variables and the results that it was
 /// given. The end of a conclude is `8C 00`.
 pub fn replies_are_read_back()
-    ensures answer { (invoke tag : ℕ) (body : List ℕ) → invoke < 2 ^ 32 → CanBeTag tag → IsAnswerBody tag body → length (answer_octets invoke tag body) < 2 ^ 32 → IsReply (answer_octets invoke tag body) (answer invoke tag body) }
+    ensures answer { (invoke tag : ℕ) (body : List ℕ) → invoke < 2 ^ 32 → CanBeTag tag → IsAnswerBody tag body
+        → length (answer_octets invoke tag body) < 2 ^ 32 → IsReply (answer_octets invoke tag body) (answer invoke tag body) }
     ensures error { (invoke class code : ℕ) → invoke < 2 ^ 32 → class < 256 → code < 256 → IsReply (error_octets invoke class code) (error invoke class code) }
-    ensures reject { (invoke : Option ℕ) (refusal : ℕ) → IfSome invoke (λ n. n < 2 ^ 32) → CanBeRejected invoke refusal → IsReply (reject_octets invoke refusal) (reject invoke (reason_code refusal)) }
+    ensures reject { (invoke : Option ℕ) (refusal : ℕ) → IfSome invoke (λ n. n < 2 ^ 32) → CanBeRejected invoke refusal
+        → IsReply (reject_octets invoke refusal) (reject invoke (reason_code refusal)) }
     ensures report { (names results : List ℕ) → IsSpecificationElement names → length (report_octets names results) < 2 ^ 32
         → IsReport (report_octets names results) names results × IsReply (report_octets names results) (information (report_octets names results)) }
     ensures concluded { IsReply (CONCLUDE_RESPONSE ∷ 0 ∷ []) concluded }

@@ -6,7 +6,8 @@ ghost use Rattle.ber_grammar.specs.Place.{piece};
 ghost use Rattle.ber_grammar.specs.Reader.{Gives, Reads};
 ghost use Rattle.ber_view.specs.View.{spot};
 ghost use Rattle.mms_pdu.specs.Reply.{reply_octets, IsReply, IsReplyRefused};
-ghost use Rattle.mms_pdu.specs.ReplyReading.{service_in, answer_in, class_at, class_in, error_class_in, service_error_in, error_in, reason_at, reject_in, pdu_in, reply_in};
+ghost use Rattle.mms_pdu.specs.ReplyReading.{service_in, answer_in, class_at, class_in, error_class_in, service_error_in, error_in, reason_at};
+ghost use Rattle.mms_pdu.specs.ReplyReading.{reject_in, pdu_in, reply_in};
 ghost use Rattle.mms_pdu.specs.ReplyView.{reply_of, IsPlaced};
 
 use crate::answer::has_form;

@@ -224,11 +224,14 @@ fn add_name(
     below: Grown,
 ) -> Result<(), AllocError>
     requires { place < length spots.old.items }
-    ensures spots { OnOk result (spots.new.items ≡ set spots.old.items place (spot_with (record { name = name.now; names = cuts.now }) (fields_of below.parts.items) below.attrs below.is_data below.leaves)) }
-    ensures parts { OnOk result (all.new.parts.items ≡ all.old.parts.items ++ record { name = name.now; kind = type_with (own_type_of cuts.now) (fields_of below.parts.items) } ∷ []) }
+    ensures spots { OnOk result (spots.new.items ≡ set spots.old.items place
+        (spot_with (record { name = name.now; names = cuts.now }) (fields_of below.parts.items) below.attrs below.is_data below.leaves)) }
+    ensures parts { OnOk result (all.new.parts.items ≡ all.old.parts.items
+        ++ record { name = name.now; kind = type_with (own_type_of cuts.now) (fields_of below.parts.items) } ∷ []) }
     ensures attrs { OnOk result (all.new.attrs ≡ all.old.attrs + (length (attrs_of_role (role_of cuts.now)) + below.attrs)) }
     ensures is_data { OnOk result (all.new.is_data ≡ all.old.is_data && (is_data_role (role_of cuts.now) && below.is_data)) }
-    ensures leaves { OnOk result (all.new.leaves ≡ all.old.leaves + leaves_with (record { name = name.now; names = cuts.now }) (fields_of below.parts.items) below.leaves) }
+    ensures leaves { OnOk result (all.new.leaves ≡ all.old.leaves + leaves_with (record { name = name.now; names = cuts.now })
+        (fields_of below.parts.items) below.leaves) }
 {
     let spot = &mut spots[place];
     set_spot(alloc, spot, cuts, below)?;
@@ -245,9 +248,12 @@ fn grow_name(
     cuts: &[Cut<'_>],
     levels: usize,
 ) -> Result<(), AllocError>
-    ensures grown { OnOk result ((gs : List Group) → IsGrown all.old (forest_of levels gs) → IsGrown all.new (forest_of levels (gs ++ record { name = name.now; names = cuts.now } ∷ []))) }
-    ensures items { OnOk result (growth.new.items ≡ growth.old.items ++ items_of (places growth.old.path.items (forest_of levels (record { name = name.now; names = cuts.now } ∷ [])))) }
-    ensures spots { OnOk result (growth.new.spots.items ≡ growth.old.spots.items ++ map spot (places growth.old.path.items (forest_of levels (record { name = name.now; names = cuts.now } ∷ [])))) }
+    ensures grown { OnOk result ((gs : List Group) → IsGrown all.old (forest_of levels gs)
+        → IsGrown all.new (forest_of levels (gs ++ record { name = name.now; names = cuts.now } ∷ []))) }
+    ensures items { OnOk result (growth.new.items ≡ growth.old.items ++ items_of
+        (places growth.old.path.items (forest_of levels (record { name = name.now; names = cuts.now } ∷ [])))) }
+    ensures spots { OnOk result (growth.new.spots.items ≡ growth.old.spots.items ++ map spot
+        (places growth.old.path.items (forest_of levels (record { name = name.now; names = cuts.now } ∷ [])))) }
     ensures path { OnOk result (growth.new.path.items ≡ growth.old.path.items) }
 {
     let (len, place) = (growth.path.len(), growth.spots.len());

@@ -22,7 +22,8 @@ pub struct Places<'a> {
 /// Gives a name that has none a place.
 fn add<'a>(numbers: &mut Numbers<'a>, name: &'a [u8], place: usize) -> Result<(), AllocError>
     requires { get_by (λ k. bytes_eq name.now k.now) numbers.old ≡ None }
-    ensures { OnOk result ((other : List ℕ) → get_by (λ k. bytes_eq other k.now) numbers.new ≡ number_or (get_by (λ k. bytes_eq other k.now) numbers.old) (bytes_eq other name.now) place) }
+    ensures { OnOk result ((other : List ℕ) → get_by (λ k. bytes_eq other k.now) numbers.new
+        ≡ number_or (get_by (λ k. bytes_eq other k.now) numbers.old) (bytes_eq other name.now) place) }
 {
     numbers.insert(name, place)?;
     Ok(())

@@ -13,7 +13,8 @@ ghost use Rattle.node_reads.specs.Reading.{HasShape, read_by, leaf_read, all_or_
 /// A node reads as its type has it with the values of its leaves, or the code of the first leaf that is refused, whatever the
 /// values of the leaves are.
 pub fn reads_are_of_leaves()
-    ensures { (f : Leaf → Result Value ℕ) (t : Tree) (k : TypeOf) → HasShape t (shape_of k) → read_by (leaf_read f) t ≡ typed k (all_or_first (map (leaf_read f) (leaves t))) }
+    ensures { (f : Leaf → Result Value ℕ) (t : Tree) (k : TypeOf) → HasShape t (shape_of k)
+        → read_by (leaf_read f) t ≡ typed k (all_or_first (map (leaf_read f) (leaves t))) }
 {}
 
 /// With what the leaves of a bay read as at a point of its history, it is what the bay's nodes read as.

@@ -33,7 +33,8 @@ fn push_stand(
     spot: &Spot,
 ) -> Result<(), AllocError>
     ensures leaves { OnOk result (leaves.new.items ≡ leaves.old.items ++ option_list spot.now.own) }
-    ensures stands { OnOk result (stands.new.items ≡ stands.old.items ++ record { what = spot.now.what; first = length leaves.old.items; end = length leaves.old.items + spot.now.leaves } ∷ []) }
+    ensures stands { OnOk result (stands.new.items ≡ stands.old.items
+        ++ record { what = spot.now.what; first = length leaves.old.items; end = length leaves.old.items + spot.now.leaves } ∷ []) }
 {
     let first = count(leaves.len())?;
     let end = plus(first, spot.leaves)?;

@@ -37,7 +37,8 @@ fn push_lines<'a>(out: &mut Vec<Cut<'a>>, lines: &'a [Line<'_>]) -> Result<(), A
 
 fn push_run<'a>(out: &mut Vec<Cut<'a>>, run: Run<'a, '_>, domain: &[u8]) -> Result<(), AllocError>
     requires { IsRun run }
-    ensures { OnOk result (out.new.items ≡ out.old.items ++ flat_map (λ (l : ModelLine). l.names) (filter (λ (l : ModelLine). bytes_eq l.domain domain.now) run.entry.lines.now)) }
+    ensures { OnOk result (out.new.items ≡ out.old.items ++ flat_map (λ (l : ModelLine). l.names)
+        (filter (λ (l : ModelLine). bytes_eq l.domain domain.now) run.entry.lines.now)) }
 {
     if is_same(run.domain, domain) {
         push_lines(out, run.lines)?;
@@ -52,7 +53,8 @@ fn names_of<'a>(
     domain: &[u8],
 ) -> Result<Vec<Cut<'a>>, AllocError>
     requires { AreRuns runs.now }
-    ensures { IfOk result (λ v. v.items ≡ flat_map (λ (l : ModelLine). l.names) (filter (λ (l : ModelLine). bytes_eq l.domain domain.now) (lines_in runs.now))) }
+    ensures { IfOk result (λ v. v.items ≡ flat_map (λ (l : ModelLine). l.names)
+        (filter (λ (l : ModelLine). bytes_eq l.domain domain.now) (lines_in runs.now))) }
 {
     let mut cuts = Vec::with_capacity(alloc, count_of(runs, domain))?;
     for run in runs {

@@ -21,7 +21,8 @@ pub fn rows_are_the_nodes()
 /// The domain and the item of a node, as `domain_of` and `item_of` give them, are the name of that node and of no other, for
 /// every node of every configuration: `resolve` finds it by them.
 pub fn names_find_their_nodes()
-    ensures { (c : Config) (n : ℕ) → n < length (nodes c) → node_named (nodes c) (node_of (configured_model c) n).domain (node_of (configured_model c) n).item ≡ Some n }
+    ensures { (c : Config) (n : ℕ) → n < length (nodes c) → node_named (nodes c) (node_of (configured_model c) n).domain
+        (node_of (configured_model c) n).item ≡ Some n }
 {}
 
 /// A model may go to another thread, and several threads may read it.

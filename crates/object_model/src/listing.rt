@@ -62,7 +62,8 @@ fn push_spots(
     spots: Vec<Spot>,
 ) -> Result<(), AllocError>
     ensures directories { listing.new.directories ≡ listing.old.directories }
-    ensures rows { OnOk result (listing.new.rows.items ≡ listing.old.rows.items ++ rows_with (length listing.old.rows.items) items.now (attrs_in_spots spots.items) spots.items) }
+    ensures rows { OnOk result (listing.new.rows.items ≡ listing.old.rows.items ++ rows_with (length listing.old.rows.items) items.now
+        (attrs_in_spots spots.items) spots.items) }
     ensures names { OnOk result (listing.new.names.items ≡ listing.old.names.items ++ names_at number 0 spots.items) }
     ensures stands { OnOk result (listing.new.stands.items ≡ listing.old.stands.items ++ stands_from (length listing.old.leaves.items) spots.items) }
     ensures leaves { OnOk result (listing.new.leaves.items ≡ listing.old.leaves.items ++ owns spots.items) }

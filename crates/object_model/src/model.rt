@@ -51,7 +51,9 @@ impl std::marker::Model for Model {
     ghost use Rattle.name_leaves.specs.Attributes.{attr_rows};
     ghost use Rattle.object_model.specs.Tables.{IsTables};
 
-    ghost invariant = { λ m. (m.blocks ≡ block_references m.config) × (m.controls ≡ control_references m.config) × (m.attrs ≡ attr_references m.config) × IsTables m.config m.tables × All (λ (a : AttrDef). IsSettable a.kind) m.config.attrs × (m.rows.items ≡ attr_rows m.config) };
+    ghost invariant = { λ m. (m.blocks ≡ block_references m.config) × (m.controls ≡ control_references m.config)
+        × (m.attrs ≡ attr_references m.config) × IsTables m.config m.tables × All (λ (a : AttrDef). IsSettable a.kind) m.config.attrs
+        × (m.rows.items ≡ attr_rows m.config) };
 }
 
 /// What is made of a configuration: the references of its blocks, controls and attributes, the rows of these, and its tables.

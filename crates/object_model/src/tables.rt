@@ -39,7 +39,8 @@ fn members_of(
     directories: &[Directory],
     references: &[Octs],
 ) -> Result<Vec<NodeId>, AllocError>
-    ensures { IfOk result (λ v. (c : ModelConfig) → Finds c domains.now directories.now → v.items ≡ map node_id (map (member_number (nodes_of c)) references.now)) }
+    ensures { IfOk result (λ v. (c : ModelConfig) → Finds c domains.now directories.now
+        → v.items ≡ map node_id (map (member_number (nodes_of c)) references.now)) }
 {
     let mut members = Vec::with_capacity(alloc, references.len())?;
     for reference in references {

@@ -1,11 +1,14 @@
 //! The lines of a configuration with the items that each names, in the order of their numbers.
 
-ghost use Rattle.std.specs.Prelude.{◌≡◌, ◌∷◌, ◌++◌, ◌+◌, [], map, codes, length, IfOk, OnOk, ℕ, Some, slice_get, true, List, position, unwrap_or, flat_map, if◌then◌else◌};
+ghost use Rattle.std.specs.Prelude.{◌≡◌, ◌∷◌, ◌++◌, ◌+◌, [], map, codes, length, IfOk, OnOk, ℕ, Some, slice_get, true, List, position, unwrap_or};
+ghost use Rattle.std.specs.Prelude.{flat_map, if◌then◌else◌};
 ghost use Rattle.std.specs.List.{list_any};
 ghost use Rattle.std.specs.Str.{bytes_eq};
 ghost use Rattle.bay_model.specs.Configured.{domains_after, with_domain};
 ghost use Rattle.bay_model.specs.Generated.{block_names, parameters, parameter_names, control_names, end_named};
-ghost use Rattle.bay_model.specs.NamedLines.{attribute_line, attribute_lines, block_line, block_lines, control_line, control_lines, node_line, group_line, attribute_names, domains as domains_of, domain_number, lines as lines_of, in_order, path_item, is_setting as is_setting_line};
+ghost use Rattle.bay_model.specs.NamedLines.{attribute_line, attribute_lines, block_line, block_lines, control_line, control_lines, node_line};
+ghost use Rattle.bay_model.specs.NamedLines.{group_line, attribute_names, domains as domains_of, domain_number, lines as lines_of, in_order};
+ghost use Rattle.bay_model.specs.NamedLines.{path_item, is_setting as is_setting_line};
 ghost use Rattle.bay_model.specs.Model.{attribute};
 ghost use Rattle.bay_model.specs.Lookups.{reference_of};
 ghost use Rattle.object_names.specs.Items.{HasReference, AreReferenced};
@@ -81,7 +84,8 @@ fn item_of<'a>(references: &'a Index, number: u32, domain: &[u8]) -> &'a [u8]
 
 /// The attribute of a line, under the functional constraint of its reference.
 fn end_at<'a>(references: &'a Index, attr: &AttrDef, number: u32) -> Result<Named<'a>, AllocError>
-    ensures { IfOk result (λ n. (fc : List ℕ) → HasReference references.now number attr.now fc → n ≡ end_named (path_item attr.now.ln fc attr.now.path) (attribute number) attr.now.kind) }
+    ensures { IfOk result (λ n. (fc : List ℕ) → HasReference references.now number attr.now fc
+        → n ≡ end_named (path_item attr.now.ln fc attr.now.path) (attribute number) attr.now.kind) }
 {
     let item = item_of(references, number, attr.domain.as_slice());
     Ok(Named {
@@ -182,7 +186,8 @@ fn push_parameter_names(
     control: &CtlDef,
     first: u32,
 ) -> Result<(), AllocError>
-    ensures { OnOk result (out.new.items ≡ out.old.items ++ parameter_names first (path_item control.now.ln (codes "CF") control.now.path) (parameters control.now)) }
+    ensures { OnOk result (out.new.items ≡ out.old.items ++ parameter_names first (path_item control.now.ln (codes "CF") control.now.path)
+        (parameters control.now)) }
 {
     let item = item_at(alloc, control.ln.as_slice(), b"CF", control.path.as_slice())?;
     push_parameters(alloc, out, first, control, &item)

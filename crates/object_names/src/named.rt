@@ -3,7 +3,8 @@
 ghost use Rattle.std.specs.Prelude.{◌≡◌, ◌∷◌, ◌++◌, [], codes, map, IfOk, OnOk};
 ghost use Rattle.sv_base.specs.Parameters.{parameter_name, parameter_kind};
 ghost use Rattle.sv_base.specs.CtlServices.{service_name, service_of};
-ghost use Rattle.bay_model.specs.Generated.{within, end_named, structure_named, block_names, setting_named, setting_names, part_named, command_names, sbo_names, sbow_names, cancel_names, control_names, parameters, selection, parameter_names};
+ghost use Rattle.bay_model.specs.Generated.{within, end_named, structure_named, block_names, setting_named, setting_names, part_named, command_names};
+ghost use Rattle.bay_model.specs.Generated.{sbo_names, sbow_names, cancel_names, control_names, parameters, selection, parameter_names};
 ghost use Rattle.bay_model.specs.Model.{attribute, withheld};
 ghost use Rattle.name_leaves.specs.Seen.{role_seen};
 
@@ -318,7 +319,8 @@ fn push_parameter(
     item: &[u8],
     parameter: CtlParameter,
 ) -> Result<(), AllocError>
-    ensures { OnOk result (out.new.items ≡ out.old.items ++ end_named (within item.now (parameter_name parameter)) (attribute number) (parameter_kind parameter) ∷ []) }
+    ensures { OnOk result (out.new.items ≡ out.old.items ++ end_named (within item.now (parameter_name parameter)) (attribute number)
+        (parameter_kind parameter) ∷ []) }
 {
     let what = What::Attribute(number);
     push_within(alloc, out, item, parameter.name(), what, parameter.kind())

@@ -147,7 +147,8 @@ impl Firsts {
         requires { AreChained self.old.heads.items self.old.entries.items }
         ensures chained { AreChained self.new.heads.items self.new.entries.items }
         ensures told { IfOk result (λ there. there ≡ latest self.old.entries.items number) }
-        ensures ok { IfOk result (λ there. (q : ℕ) → latest self.new.entries.items q ≡ (if is_none there && nat_eq number q then Some place else latest self.old.entries.items q)) }
+        ensures ok { IfOk result (λ there. (q : ℕ) → latest self.new.entries.items q ≡
+            (if is_none there && nat_eq number q then Some place else latest self.old.entries.items q)) }
         ensures err { OnErr result ((q : ℕ) → latest self.new.entries.items q ≡ latest self.old.entries.items q) }
     {
         let len = self.entries.len();

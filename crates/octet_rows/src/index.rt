@@ -30,7 +30,8 @@ impl Model for Index {
 
     ghost view = { λ index. index.rows };
 
-    ghost invariant = { λ index. (AreChained index.first.heads.items index.first.entries.items) × (Finds index.rows (latest index.first.entries.items) index.further.items) };
+    ghost invariant = { λ index. (AreChained index.first.heads.items index.first.entries.items)
+        × (Finds index.rows (latest index.first.entries.items) index.further.items) };
 }
 
 /// The row at the place is this one.

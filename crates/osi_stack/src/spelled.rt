@@ -29,8 +29,10 @@ ghost use Rattle.osi_stack.specs.Stream.{Stand, called, calling, StandsAt, IsRef
 /// ISO 8823-1, ISO 8650-1 and ISO 9506-2; and a stream that spells events stands for them.
 pub fn events_are_what_octets_spell()
     ensures upper { (u : Upper) (octets : List ℕ) (es : List Event) → StandsFor u octets es → (t : Stand) × (rest : List ℕ) × Spells called t rest octets es }
-    ensures caller { (x : Caller) (size : ℕ) (octets : List ℕ) (es : List Event) → CallsFor x size octets es → (t : Stand) × (rest : List ℕ) × Spells (calling size) t rest octets es }
-    ensures spells { (from t : Stand) (rest octets : List ℕ) (es : List Event) → IsBytes from.transport.tsdu → StandsAt from t rest octets es → Spells from t rest octets es }
+    ensures caller { (x : Caller) (size : ℕ) (octets : List ℕ) (es : List Event) → CallsFor x size octets es → (t : Stand) × (rest : List ℕ)
+        × Spells (calling size) t rest octets es }
+    ensures spells { (from t : Stand) (rest octets : List ℕ) (es : List Event) → IsBytes from.transport.tsdu → StandsAt from t rest octets es
+        → Spells from t rest octets es }
     ensures stands { (from t : Stand) (rest octets : List ℕ) (es : List Event) → Spells from t rest octets es → StandsAt from t rest octets es }
     ensures tells { (phase : Phase) (tsdu : Tsdu) (x : Phase × Option Event) → HasOctets tsdu → tsdu_at phase tsdu ≡ Ok x → Tells phase tsdu x }
     ensures told { (phase : Phase) (tsdu : Tsdu) (x : Phase × Option Event) → Tells phase tsdu x → tsdu_at phase tsdu ≡ Ok x }
@@ -39,17 +41,22 @@ pub fn events_are_what_octets_spell()
 /// What refuses a stream is the first production that isn't there, with its cause: a TSDU tells a connection something or is
 /// refused for one cause, one of the two, and never both.
 pub fn refusals_are_what_octets_lack()
-    ensures spells { (from : Stand) (octets : List ℕ) (es : List Event) (c : Cause) (n : ℕ) → IsBytes from.transport.tsdu → IsRefused from octets es c n → SpellsRefusal from octets es c n }
-    ensures refuses { (from : Stand) (octets : List ℕ) (es : List Event) (c : Cause) (n : ℕ) → IsBytes from.transport.tsdu → SpellsRefusal from octets es c n → IsRefused from octets es c n }
-    ensures answered { (phase : Phase) (tsdu : Tsdu) → HasOctets tsdu → ((x : Phase × Option Event) × Tells phase tsdu x) ⊎ ((c : Cause) × IsTsduRefused phase tsdu c) }
+    ensures spells { (from : Stand) (octets : List ℕ) (es : List Event) (c : Cause) (n : ℕ) → IsBytes from.transport.tsdu
+        → IsRefused from octets es c n → SpellsRefusal from octets es c n }
+    ensures refuses { (from : Stand) (octets : List ℕ) (es : List Event) (c : Cause) (n : ℕ) → IsBytes from.transport.tsdu
+        → SpellsRefusal from octets es c n → IsRefused from octets es c n }
+    ensures answered { (phase : Phase) (tsdu : Tsdu) → HasOctets tsdu → ((x : Phase × Option Event) × Tells phase tsdu x)
+        ⊎ ((c : Cause) × IsTsduRefused phase tsdu c) }
     ensures one_cause { (phase : Phase) (tsdu : Tsdu) (c d : Cause) → HasOctets tsdu → IsTsduRefused phase tsdu c → IsTsduRefused phase tsdu d → c ≡ d }
-    ensures not_both { (phase : Phase) (tsdu : Tsdu) (x : Phase × Option Event) (c : Cause) → HasOctets tsdu → Tells phase tsdu x → IsTsduRefused phase tsdu c → ⊥ }
+    ensures not_both { (phase : Phase) (tsdu : Tsdu) (x : Phase × Option Event) (c : Cause) → HasOctets tsdu → Tells phase tsdu x
+        → IsTsduRefused phase tsdu c → ⊥ }
 {}
 
 /// A stream spells one list of events, a TSDU tells a connection one thing, a CONNECT brings one request, an ACCEPT one
 /// answer, and data one value in one context.
 pub fn what_octets_spell_is_one_thing()
-    ensures stream { (from t u : Stand) (rest other octets : List ℕ) (es ds : List Event) → Spells from t rest octets es → Spells from u other octets ds → (es ≡ ds) × (t ≡ u) × (rest ≡ other) }
+    ensures stream { (from t u : Stand) (rest other octets : List ℕ) (es ds : List Event) → Spells from t rest octets es
+        → Spells from u other octets ds → (es ≡ ds) × (t ≡ u) × (rest ≡ other) }
     ensures tsdu { (phase : Phase) (tsdu : Tsdu) (x y : Phase × Option Event) → Tells phase tsdu x → Tells phase tsdu y → x ≡ y }
     ensures request { (octets : List ℕ) (cp other : Request) (i j : Initiate) → IsRequest octets cp i → IsRequest octets other j → (cp ≡ other) × (i ≡ j) }
     ensures response { (octets : List ℕ) (i j : Initiate) → IsResponse octets i → IsResponse octets j → i ≡ j }

@@ -2,7 +2,8 @@
 
 ghost use Rattle.std.specs.Prelude.{◌≡◌};
 ghost use Rattle.race_records.specs.Merged.{book_seen};
-ghost use Rattle.race_records.specs.Verdicts.{number_at, full_line as full_line_of, lesser as lesser_of, lowest_full as lowest_of, lacks_memory as lacks_memory_in};
+ghost use Rattle.race_records.specs.Verdicts.{number_at, full_line as full_line_of, lesser as lesser_of, lowest_full as lowest_of};
+ghost use Rattle.race_records.specs.Verdicts.{lacks_memory as lacks_memory_in};
 
 use actor_scripts::Part;
 use bay_histories::StepFault;

@@ -77,8 +77,10 @@ impl Forms {
         requires number { a.0 ≤ 16 }
         requires ranges { IsLine (line_seen line.now) }
         requires none { heard.old.items ≡ [] }
-        ensures told { (f : FormOf) → Stands (form_in self.old a.0) f → IfOk result (λ told. telling told step.new heard.new.items ≡ told_of model.now f (line_seen line.now)) }
-        ensures form { (f : FormOf) → Stands (form_in self.old a.0) f → OnOk result (Stands (form_in self.new a.0) (form_behind (association_of (line_seen line.now)) (line_seen line.now) f)) }
+        ensures told { (f : FormOf) → Stands (form_in self.old a.0) f
+            → IfOk result (λ told. telling told step.new heard.new.items ≡ told_of model.now f (line_seen line.now)) }
+        ensures form { (f : FormOf) → Stands (form_in self.old a.0) f
+            → OnOk result (Stands (form_in self.new a.0) (form_behind (association_of (line_seen line.now)) (line_seen line.now) f)) }
         ensures others { (b : ℕ) → (a.0 == b) ≡ false → form_in self.new b ≡ form_in self.old b }
         ensures fits { OnOk result (AllByRecursion (IsFittingPart model.now) heard.new.items) }
         ensures few { OnOk result (made heard.new.items ≤ most_steps (line_seen line.now)) }

@@ -119,7 +119,8 @@ impl Playing {
         requires few { self.old.bay.steps < 2 ^ 62 }
         ensures performs { IfOk result (λ s. Performs s self.old self.new number shape actor.0 step.now out.old.items out.new.items) }
         ensures judged { IfOk result (λ s. IfSome s IsJudgement) }
-        ensures faultless { OnErr result ((c : Config) (s : Played) → Plays self.old c s → fault (configured_model c) s.turns (turn_at s actor.0 step.now) ≡ None) }
+        ensures faultless { OnErr result ((c : Config) (s : Played) → Plays self.old c s
+            → fault (configured_model c) s.turns (turn_at s actor.0 step.now) ≡ None) }
         ensures few { IfOk result (λ s. IfNone s (self.new.bay.steps ≤ suc self.old.bay.steps)) }
         ensures same { IfOk result (λ s. IfNone s (self.new.bay.config ≡ self.old.bay.config)) }
     {

@@ -67,7 +67,8 @@ impl Reader {
     pub fn ended(&self, alloc: Global, long: bool) -> Result<Status, AllocError>
         requires early { IsEarly self.now.session.stage }
         requires lines { self.now.session.lines < 2 ^ 61 }
-        ensures status { IfOk result (λ s. (place : Place) → IsAt self.now.session.stage place → s ≡ ended_at long (has_begun self.now.held.items) (suc self.now.session.lines) place) }
+        ensures status { IfOk result (λ s. (place : Place) → IsAt self.now.session.stage place
+            → s ≡ ended_at long (has_begun self.now.held.items) (suc self.now.session.lines) place) }
         ensures judged { IfOk result IsJudgement }
     {
         self.session.ended(alloc, long, !self.held.is_empty())
@@ -87,7 +88,8 @@ impl Reader {
         ensures feeds { IfOk result (λ stop. Feeds stop self.old self.new piece.now out.old.items out.new.items) }
         ensures judged { IfOk result (λ stop. IfSome stop IsJudgement) }
         ensures part { OnOk result (NoNewline self.new.held.items) }
-        ensures few { IfOk result (λ stop. IfNone stop (steps_in self.new.session.stage + length self.new.held.items ≤ steps_in self.old.session.stage + length piece.now)) }
+        ensures few { IfOk result (λ stop. IfNone stop (steps_in self.new.session.stage + length self.new.held.items
+            ≤ steps_in self.old.session.stage + length piece.now)) }
         ensures early { IfOk result (λ stop. IfNone stop (IsEarly self.new.session.stage)) }
         ensures lines { OnOk result (self.new.session.lines ≤ self.old.session.lines + length piece.now) }
     {
@@ -115,7 +117,8 @@ impl Reader {
         ensures feeds { IfOk result (λ stop. Feeds stop self.old self.new piece.now out.old.items out.new.items) }
         ensures judged { IfOk result (λ stop. IfSome stop IsJudgement) }
         ensures part { OnOk result (NoNewline self.new.held.items) }
-        ensures few { IfOk result (λ stop. IfNone stop (steps_in self.new.session.stage + length self.new.held.items ≤ steps_in self.old.session.stage + length self.old.held.items + length piece.now)) }
+        ensures few { IfOk result (λ stop. IfNone stop (steps_in self.new.session.stage + length self.new.held.items
+            ≤ steps_in self.old.session.stage + length self.old.held.items + length piece.now)) }
         ensures early { IfOk result (λ stop. IfNone stop (IsEarly self.new.session.stage)) }
         ensures lines { OnOk result (self.new.session.lines ≤ self.old.session.lines + length piece.now) }
     {

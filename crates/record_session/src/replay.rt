@@ -58,7 +58,8 @@ fn take_piece<K: Sink>(
     ensures takes { IfOk result (λ stop. Takes stop reader.old reader.new piece.now (K.taken sink.old) (K.taken sink.new)) }
     ensures judged { IfOk result (λ stop. IfSome stop IsJudgement) }
     ensures part { OnOk result (NoNewline reader.new.held.items) }
-    ensures few { IfOk result (λ stop. IfNone stop (steps_in reader.new.session.stage + length reader.new.held.items ≤ steps_in reader.old.session.stage + length reader.old.held.items + length piece.now)) }
+    ensures few { IfOk result (λ stop. IfNone stop (steps_in reader.new.session.stage + length reader.new.held.items
+        ≤ steps_in reader.old.session.stage + length reader.old.held.items + length piece.now)) }
     ensures early { IfOk result (λ stop. IfNone stop (IsEarly reader.new.session.stage)) }
     ensures lines { OnOk result (reader.new.session.lines ≤ reader.old.session.lines + length piece.now) }
     ensures empty { OnOk result (out.new.items ≡ []) }
@@ -78,7 +79,8 @@ fn take_piece<K: Sink>(
 fn end(alloc: Global, reader: &Reader, long: bool) -> Status
     requires early { IsEarly reader.now.session.stage }
     requires lines { reader.now.session.lines < 2 ^ 61 }
-    ensures status { IsJudgement result → (place : Place) → IsAt reader.now.session.stage place → result ≡ ended long (has_begun reader.now.held.items) (suc reader.now.session.lines) place }
+    ensures status { IsJudgement result → (place : Place) → IsAt reader.now.session.stage place
+        → result ≡ ended long (has_begun reader.now.held.items) (suc reader.now.session.lines) place }
     ensures listed { IsOfReplay result }
     ensures read { result ≢ Status.ReadFault }
     ensures write { result ≢ Status.WriteFault }
@@ -177,7 +179,8 @@ impl Replay {
     pub fn at_limit<S: Source>(&self, alloc: Global, source: &mut S) -> Status
         requires ready { IsReady self.now }
         requires full { 67108864 ≤ self.now.count }
-        ensures told { (left taken told : Option (List ℕ)) → Run self.now.reader left (S.left source.old) taken told self.now.count → IsJudgement result → IfSome left (λ b. Answers b result taken told) }
+        ensures told { (left taken told : Option (List ℕ)) → Run self.now.reader left (S.left source.old) taken told self.now.count
+            → IsJudgement result → IfSome left (λ b. Answers b result taken told) }
         ensures listed { IsOfReplay result }
         ensures taken { TakesAtMost 1 (S.left source.old) (S.left source.new) }
         ensures read { result ≡ statuses.ReadFault → Rose (S.faults source.old) (S.faults source.new) }
@@ -202,7 +205,8 @@ fn run<S: Source, K: Sink>(
 ) -> Status
     requires ready { IsReady replay.old }
     requires some { 0 < length piece.old }
-    ensures told { (left taken : Option (List ℕ)) → Run replay.old.reader left (S.left source.old) taken (K.taken sink.old) replay.old.count → IsJudgement result → IfSome left (λ b. Answers b result taken (K.taken sink.new)) }
+    ensures told { (left taken : Option (List ℕ)) → Run replay.old.reader left (S.left source.old) taken (K.taken sink.old) replay.old.count
+        → IsJudgement result → IfSome left (λ b. Answers b result taken (K.taken sink.new)) }
     ensures listed { IsOfReplay result }
     ensures taken { TakesAtMost (67108865 - replay.old.count) (S.left source.old) (S.left source.new) }
     ensures read { result ≡ Status.ReadFault → Rose (S.faults source.old) (S.faults source.new) }

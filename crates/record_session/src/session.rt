@@ -45,7 +45,8 @@ impl Session {
         requires few { steps_in self.old.stage + length line.now < 2 ^ 61 }
         requires early { IsEarly self.old.stage }
         requires lines { self.old.lines < 2 ^ 61 }
-        ensures moves { IfOk result (λ s. AdvancesOn s self.old.stage self.new.stage (λ place. line_at (suc self.old.lines) place line.now) out.old.items out.new.items) }
+        ensures moves { IfOk result (λ s. AdvancesOn s self.old.stage self.new.stage
+            (λ place. line_at (suc self.old.lines) place line.now) out.old.items out.new.items) }
         ensures judged { IfOk result (λ s. IfSome s IsJudgement) }
         ensures few { IfOk result (λ s. IfNone s (steps_in self.new.stage ≤ suc (steps_in self.old.stage + length line.now))) }
         ensures early { IfOk result (λ s. IfNone s (IsEarly self.new.stage)) }

@@ -75,7 +75,8 @@ fn connect(
     octets: &[u8],
     heard: &mut Vec<Heard>,
 ) -> Result<(), AllocError>
-    ensures { OnOk result (heard.new.items ≡ heard.old.items ++ Makes (record { 0 = a.0 }) (steps.Open a line.size (record { 0 = a.0 })) ∷ Tells (frame_line a.0 octets.now) ∷ []) }
+    ensures { OnOk result (heard.new.items ≡ heard.old.items ++ Makes (record { 0 = a.0 }) (steps.Open a line.size (record { 0 = a.0 })) ∷ Tells
+        (frame_line a.0 octets.now) ∷ []) }
 {
     let writer = ActorNo(a.0);
     let open = Step::Open {

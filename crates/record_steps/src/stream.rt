@@ -95,8 +95,10 @@ fn feed(
     requires number { IsAssoc a }
     requires wired { IsWired wired }
     requires none { heard.old.items ≡ [] }
-    ensures heard { (before : List ℕ) (events : List StackEvent) → StandsFor stack before events → OnOk result (heard.new.items ≡ heard_through model.now a (events_behind before octets.now) (refusal_behind before octets.now) wired) }
-    ensures form { (before : List ℕ) (events : List StackEvent) → StandsFor stack before events → IfOk result (λ form. Stands form (fed_form wired before (Some octets.now))) }
+    ensures heard { (before : List ℕ) (events : List StackEvent) → StandsFor stack before events
+        → OnOk result (heard.new.items ≡ heard_through model.now a (events_behind before octets.now) (refusal_behind before octets.now) wired) }
+    ensures form { (before : List ℕ) (events : List StackEvent) → StandsFor stack before events
+        → IfOk result (λ form. Stands form (fed_form wired before (Some octets.now))) }
     ensures sized { IfOk result HasShape }
     ensures fits { OnOk result (AllByRecursion (IsFittingPart model.now) heard.new.items) }
     ensures few { (before : List ℕ) (events : List StackEvent) → StandsFor stack before events → OnOk result (made heard.new.items ≤ suc (length octets.now)) }
@@ -121,8 +123,10 @@ fn hear_piece(
     requires number { IsAssoc a }
     requires wired { IsWired wired }
     requires none { heard.old.items ≡ [] }
-    ensures told { (before : List ℕ) (events : List StackEvent) (slot : Step) → StandsFor upper before events → IfOk result (λ r. telling r.1 slot heard.new.items ≡ piece_as model.now wired a before (piece_at hex.now)) }
-    ensures form { (before : List ℕ) (events : List StackEvent) → StandsFor upper before events → IfOk result (λ r. Stands r.0 (fed_form wired before (piece_at hex.now))) }
+    ensures told { (before : List ℕ) (events : List StackEvent) (slot : Step) → StandsFor upper before events
+        → IfOk result (λ r. telling r.1 slot heard.new.items ≡ piece_as model.now wired a before (piece_at hex.now)) }
+    ensures form { (before : List ℕ) (events : List StackEvent) → StandsFor upper before events
+        → IfOk result (λ r. Stands r.0 (fed_form wired before (piece_at hex.now))) }
     ensures sized { IfOk result (λ r. HasShape r.0) }
     ensures fits { OnOk result (AllByRecursion (IsFittingPart model.now) heard.new.items) }
     ensures few { (before : List ℕ) (events : List StackEvent) → StandsFor upper before events → OnOk result (made heard.new.items ≤ suc (length hex.now)) }

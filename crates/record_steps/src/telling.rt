@@ -9,7 +9,8 @@ ghost use Rattle.run_record.specs.Seen.{line_seen, pairs_seen};
 ghost use Rattle.name_leaves.specs.Numbers.{number_in};
 ghost use Rattle.object_model.specs.References.{block_references, control_references};
 ghost use Rattle.sv_base.specs.ComponentTable.{comp_named};
-ghost use Rattle.record_steps.specs.Resolved.{opened_in, opened_as, written_as, lost_as, asked_as, spelled_as, sent_as, set_as, ended_as, blocked_as, turn_of, association_of, told_of};
+ghost use Rattle.record_steps.specs.Resolved.{opened_in, opened_as, written_as, lost_as, asked_as, spelled_as, sent_as, set_as, ended_as, blocked_as};
+ghost use Rattle.record_steps.specs.Resolved.{turn_of, association_of, told_of};
 ghost use Rattle.record_steps.specs.Forms as specs;
 ghost use Rattle.record_steps.specs.Forms.{IsSized, Stands, plain, form_behind};
 ghost use Rattle.record_steps.specs.Own.{IsFittingPart};
@@ -97,7 +98,8 @@ fn write(
     step: &mut Step,
 ) -> Result<Told, AllocError>
     requires { IsAssoc a }
-    ensures { IfOk result (λ told. telling told step.new [] ≡ written_as model.now (plain form.now) a (number_in (block_references model.now) block.now) (comp_named comp.now) value.now) }
+    ensures { IfOk result (λ told. telling told step.new [] ≡ written_as model.now (plain form.now) a
+        (number_in (block_references model.now) block.now) (comp_named comp.now) value.now) }
 {
     let Some(block) = model.block(block) else {
         return Ok(Told::Refused(Kind::Name));
@@ -315,8 +317,10 @@ pub fn tell(
     requires ranges { IsLine (line_seen line.now) }
     requires sized { IsSized form.old }
     requires none { heard.old.items ≡ [] }
-    ensures told { (f : specs.Form) → Stands form.old f → IfOk result (λ told. telling told step.new heard.new.items ≡ told_of model.now f (line_seen line.now)) }
-    ensures form { (f : specs.Form) → Stands form.old f → OnOk result (Stands form.new (form_behind (association_of (line_seen line.now)) (line_seen line.now) f)) }
+    ensures told { (f : specs.Form) → Stands form.old f → IfOk result
+        (λ told. telling told step.new heard.new.items ≡ told_of model.now f (line_seen line.now)) }
+    ensures form { (f : specs.Form) → Stands form.old f → OnOk result
+        (Stands form.new (form_behind (association_of (line_seen line.now)) (line_seen line.now) f)) }
     ensures sized { IsSized form.new }
     ensures fits { OnOk result (AllByRecursion (IsFittingPart model.now) heard.new.items) }
     ensures few { OnOk result (made heard.new.items ≤ most_steps (line_seen line.now)) }

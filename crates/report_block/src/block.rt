@@ -180,7 +180,11 @@ impl ReportBlock {
     /// Closes what is gathered, and keeps its entry.
     pub(crate) fn close(&mut self, step: u64, octets: &mut Fixed)
         requires room { 504 * self.old.window.members ≤ octets.old.room }
-        ensures closed { self.new ≡ record self.old { window = closed self.old.window; ring = after_bodies self.old.ring (body_of step self.old.window.gathered) } }
+        ensures closed { self.new ≡ record self.old {
+          window = closed self.old.window;
+          ring = after_bodies self.old.ring
+              (body_of step self.old.window.gathered);
+        } }
         ensures room { octets.new.room ≡ octets.old.room }
     {
         if let Some(moment) = self.window.close(octets) {
@@ -207,7 +211,11 @@ impl ReportBlock {
     /// Empties the buffer, once what is gathered has closed.
     fn purge(&mut self, step: u64, octets: &mut Fixed)
         requires room { 504 * self.old.window.members ≤ octets.old.room }
-        ensures purged { self.new ≡ record self.old { window = empty_window self.old.window.members self.old.block.options.buf_tm; ring = after_purge (after_bodies self.old.ring (body_of step self.old.window.gathered)) } }
+        ensures purged { self.new ≡ record self.old {
+          window = empty_window self.old.window.members self.old.block.options.buf_tm;
+          ring = after_purge
+              (after_bodies self.old.ring (body_of step self.old.window.gathered));
+        } }
         ensures room { octets.new.room ≡ octets.old.room }
     {
         self.close(step, octets);

@@ -50,7 +50,10 @@ impl ReportBlock {
         requires members { All (IsWritable store.now) set.now }
         requires room { 504 * length set.now ≤ octets.old.room }
         requires window { 504 * self.old.window.members ≤ octets.old.room }
-        ensures interrogated { self.new ≡ record self.old { window = empty_window self.old.window.members self.old.block.options.buf_tm; ring = after_bodies self.old.ring (body_of step self.old.window.gathered ++ body_at now step (all_pieces store.now set.now for_general) ∷ []) } }
+        ensures interrogated { self.new ≡ record self.old {
+          window = empty_window self.old.window.members self.old.block.options.buf_tm;
+          ring = after_bodies self.old.ring (body_of step self.old.window.gathered ++ body_at now step (all_pieces store.now set.now for_general) ∷ []);
+        } }
         ensures room { octets.new.room ≡ octets.old.room }
     {
         self.close(step, octets);

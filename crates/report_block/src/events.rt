@@ -34,7 +34,11 @@ fn put_each(
     requires one { 504 ≤ one.old.room }
     requires count { length note.now ≤ each.old.members }
     requires room { 504 * length note.now ≤ each.old.room }
-    ensures each { each.new ≡ record { items = map (λ (m : MentionValue). kept_octets_of (kept_of store.now set.now m)) note.now; members = each.old.members; room = each.old.room } }
+    ensures each { each.new ≡ record {
+      items = map (λ (m : MentionValue). kept_octets_of (kept_of store.now set.now m)) note.now;
+      members = each.old.members;
+      room = each.old.room;
+    } }
     ensures one { one.new.room ≡ one.old.room }
 {
     each.clear();

@@ -22,7 +22,8 @@ ghost use Rattle.report_block.specs.Coming.{Coming, arrived, came, AreOf, IsComi
 /// same moment. Time makes nothing of a block without an integrity period that has gathered nothing.
 pub fn report_blocks_stand()
     ensures opened { (c : Model) (b : ℕ) (part : ReportBlock)
-        → part.block ≡ configured (block_of c b) → part.ring ≡ empty_ring (block_of c b).capacity → part.window ≡ empty_window part.window.members (block_of c b).initial.buf_tm → part.origin ≡ None
+        → part.block ≡ configured (block_of c b) → part.ring ≡ empty_ring (block_of c b).capacity
+        → part.window ≡ empty_window part.window.members (block_of c b).initial.buf_tm → part.origin ≡ None
         → Stands part c b [] }
     ensures arrival { (c : Model) (b m n : ℕ) (before : Past) (part : ReportBlock) (all : List Piece)
         → Stands part c b before → (integrity c b (arrival n m) before ≡ true → AreOf all (all_members c b (record no_reason { intg = true }) before before))

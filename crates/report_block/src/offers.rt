@@ -55,7 +55,8 @@ fn is_done(part: &ReportBlock, a: AssocNo) -> bool
 
 /// The next entry of a block comes before the offer that was found. Its octets are not looked at.
 fn comes_before(part: &ReportBlock, a: AssocNo, found: &Option<Offer<'_>>) -> bool
-    ensures first { (b : ℕ) → earlier (option_map offered found.now) (offered_by a b part.now) ≡ (if result then offered_by a b part.now else option_map offered found.now) }
+    ensures first { (b : ℕ) → earlier (option_map offered found.now) (offered_by a b part.now) ≡
+        (if result then offered_by a b part.now else option_map offered found.now) }
 {
     if is_done(part, a) {
         return false;

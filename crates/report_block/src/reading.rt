@@ -96,7 +96,8 @@ impl ReportBlock {
         now: Moment,
     ) -> Result<Value, AllocError>
         ensures value { IfOk result (λ v. v ≡ reading was now comp self.now) }
-        ensures stands { IfOk result (λ v. (c : Model) (b n m : ℕ) (past : Past) → Stands self.now c b past → was ≡ moment_at past → now ≡ max m was → v ≡ read_component c b comp (arrival n m ∷ past)) }
+        ensures stands { IfOk result (λ v. (c : Model) (b n m : ℕ) (past : Past) → Stands self.now c b past → was ≡ moment_at past → now ≡ max m was
+            → v ≡ read_component c b comp (arrival n m ∷ past)) }
     {
         // no moment lies above the last that a step can have
         let _last = was.ms();

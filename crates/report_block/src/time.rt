@@ -90,7 +90,11 @@ impl ReportBlock {
     /// Closes what is over, and keeps its entry.
     fn expire(&mut self, now: Moment, step: u64, octets: &mut Fixed)
         requires room { 504 * self.old.window.members ≤ octets.old.room }
-        ensures expired { self.new ≡ record self.old { window = after_time now self.old.window; ring = after_bodies self.old.ring (body_of step (over_at now self.old.window)) } }
+        ensures expired { self.new ≡ record self.old {
+          window = after_time now self.old.window;
+          ring = after_bodies self.old.ring
+              (body_of step (over_at now self.old.window));
+        } }
         ensures room { octets.new.room ≡ octets.old.room }
     {
         if let Some(moment) = self.window.advance(now, octets) {

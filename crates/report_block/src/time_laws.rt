@@ -20,7 +20,8 @@ pub fn calls_are_what_comes()
     ensures event { (b : ℕ) (d : Deed) (now step : ℕ) (ps : List Piece) (part : ReportBlock)
         → after_deed b d part.ring.front part.block ≡ part.block → came b d now step (noting ps) part ≡ after_noting now step ps part }
     ensures write { (b : ℕ) (w : Written) (now step : ℕ) (all : List Piece) (part : ReportBlock) (e : Effect)
-        → record (came b (wrote w.by.0 b w.comp w.value.now) now step (coming_by all e) part) { set = set_after w.comp w.named part.set } ≡ after_any w now step all part (Ok e) }
+        → record (came b (wrote w.by.0 b w.comp w.value.now) now step (coming_by all e) part) { set = set_after w.comp w.named part.set }
+        ≡ after_any w now step all part (Ok e) }
 {}
 
 /// Before the moment at which a block has something due time leaves the block as it is, and that stays the moment.

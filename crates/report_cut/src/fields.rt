@@ -4,7 +4,8 @@ ghost use Rattle.std.specs.Prelude.{◌≡◌, ◌++◌, ◌∷◌, List, [], �
 ghost use Rattle.ber_write.specs.Minimal.{octets_of, uint_octets, CanBeTag};
 ghost use Rattle.ber_write.specs.BitString.{bit_octets};
 ghost use Rattle.mms_data.specs.declared.tags.TheConstants.{UNSIGNED};
-ghost use Rattle.report_cut.specs.Fields.{optional, truth as truth_of, flags as flags_of, identity, time_octets as time_octets_of, first_fields, further_fields, place, front};
+ghost use Rattle.report_cut.specs.Fields.{optional, truth as truth_of, flags as flags_of, identity, time_octets as time_octets_of, first_fields};
+ghost use Rattle.report_cut.specs.Fields.{further_fields, place, front};
 
 use crate::measure::bit;
 use crate::segment::Segment;

@@ -27,8 +27,10 @@ pub fn segments_are_full()
 /// Each PDU of a report, which has at most `size` octets, is an information report under the list name RPT, whose results
 /// are these elements: fields, and those of the members that it has.
 pub fn segments_are_reports()
-    ensures report { (r : Report) (segment : Option Segment) (ms : List Member) → length (pdu r segment ms) < 2 ^ 32 → IsReport (pdu r segment ms) rpt (results r segment ms) }
-    ensures fields { (r : Report) (segment : Option Segment) (ms : List Member) (es : List Element) → CanBeCut r → AllByRecursion IsShort ms → AreSpelled ms es → IsRow (results r segment ms) (results_row r segment ms es) }
+    ensures report { (r : Report) (segment : Option Segment) (ms : List Member) → length (pdu r segment ms) < 2 ^ 32
+        → IsReport (pdu r segment ms) rpt (results r segment ms) }
+    ensures fields { (r : Report) (segment : Option Segment) (ms : List Member) (es : List Element) → CanBeCut r → AllByRecursion IsShort ms
+        → AreSpelled ms es → IsRow (results r segment ms) (results_row r segment ms es) }
 {}
 
 /// The bit of a number says whether a member with that number stands in the PDU.

@@ -6,7 +6,8 @@ ghost use Rattle.ber_grammar.specs.Reader.{and_then, GivesOrMemory, ReadsOrMemor
 ghost use Rattle.ber_grammar.specs.Steps.{required};
 ghost use Rattle.report_cut.specs.declared.fault.ReportFault.TheVariants.{Invalid};
 ghost use Rattle.report_cut.specs.Part.{IsReportPart, IsPartRefused};
-ghost use Rattle.report_cut.specs.PartReading.{fault_of, is_rpt, identity_at, first_fields_at, further_fields_at, place_at, body_at, results_in, told_by, part_at};
+ghost use Rattle.report_cut.specs.PartReading.{fault_of, is_rpt, identity_at, first_fields_at, further_fields_at, place_at, body_at, results_in};
+ghost use Rattle.report_cut.specs.PartReading.{told_by, part_at};
 
 use crate::fault::ReportFault;
 use crate::measure::bit;

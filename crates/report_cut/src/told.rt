@@ -109,7 +109,8 @@ fn read_members(
 ) -> Result<Vec<Member>, ReportFault>
     requires { number + length bits.now < 1000 }
     ensures { GivesOrMemory fault_of (λ v. v.items) result
-        (required Invalid (members_at referred reasoned number bits.now places.entry.references.now places.entry.values.now places.entry.reasons.now so_far.items)) }
+        (required Invalid (members_at referred reasoned number bits.now places.entry.references.now places.entry.values.now
+        places.entry.reasons.now so_far.items)) }
 {
     match bits {
         [] => {

@@ -20,7 +20,8 @@ fn first_space(octets: &[u8]) -> Option<usize>
 
 /// The octets before the first space, and those after it.
 fn split_word(octets: &[u8]) -> Option<(&[u8], &[u8])>
-    ensures cut { MatchOption result (All (λ b. (b == 32) ≡ false) octets.now) (λ r. (octets.now ≡ r.0.now ++ 32 ∷ r.1.now) × All (λ b. (b == 32) ≡ false) r.0.now) }
+    ensures cut { MatchOption result (All (λ b. (b == 32) ≡ false) octets.now) (λ r. (octets.now ≡ r.0.now ++ 32 ∷ r.1.now)
+        × All (λ b. (b == 32) ≡ false) r.0.now) }
 {
     let at = first_space(octets)?;
     Some((&octets[..at], &octets[at + 1..]))

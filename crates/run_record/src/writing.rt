@@ -106,7 +106,8 @@ fn push_write(
     comp: &[u8],
     value: &[u8],
 ) -> Result<(), AllocError>
-    ensures ok { OnOk result (out.new.items ≡ out.old.items ++ (codes "write" ++ spaced (decimal a.0) ++ spaced block.now ++ spaced comp.now ++ spaced value.now)) }
+    ensures ok { OnOk result (out.new.items ≡ out.old.items ++
+        (codes "write" ++ spaced (decimal a.0) ++ spaced block.now ++ spaced comp.now ++ spaced value.now)) }
     ensures err { OnErr result (take (length out.old.items) out.new.items ≡ out.old.items) }
 {
     push_association(out, b"write", a)?;

@@ -2,7 +2,8 @@
 
 ghost use Rattle.std.specs.Prelude.{◌≡◌, ◌≤◌, ◌++◌, ◌∷◌, [], None, Some, map, length, slice_set, IfOk, OnOk};
 ghost use Rattle.race_records.specs.Merged.{lines_in, book_seen};
-ghost use Rattle.script_casting.specs.Casting.{script_steps, role_steps, script_place, role_place, AreSeats, HasGate, HaveGates, without_gate, cast_one, cast_from, IsCast};
+ghost use Rattle.script_casting.specs.Casting.{script_steps, role_steps, script_place, role_place, AreSeats, HasGate, HaveGates, without_gate};
+ghost use Rattle.script_casting.specs.Casting.{cast_one, cast_from, IsCast};
 
 use actor_scripts::{Actor, Script as ActorScript, TimedStep};
 use script_plans::{Script, StepLine};

@@ -91,7 +91,8 @@ fn take(
 fn pass(opened: &mut Opened, number: u64, told: Told) -> Next
     requires none { IsStepless told }
     requires well { IsWellOpened opened.old }
-    ensures moves { (p : ThePlan) (text : List ℕ) (line : RecLine) (step : TheStep) (heard : List TheHeard) → Moved result (inside p opened.new) (told_in number p opened.old text line (telling told step heard)) }
+    ensures moves { (p : ThePlan) (text : List ℕ) (line : RecLine) (step : TheStep) (heard : List TheHeard)
+        → Moved result (inside p opened.new) (told_in number p opened.old text line (telling told step heard)) }
     ensures decided { IsDecided result }
     ensures well { IsWellOpened opened.new }
 {
@@ -118,7 +119,8 @@ fn act(
 ) -> Result<Next, AllocError>
     requires ranges { IsLine (line_seen line.now) }
     requires well { IsWellOpened opened.old }
-    ensures moves { IfOk result (λ n. (p : ThePlan) (heard : List TheHeard) → Moved n (inside p opened.new) (told_in number p opened.old text.now (line_seen line.now) (telling told step heard))) }
+    ensures moves { IfOk result (λ n. (p : ThePlan) (heard : List TheHeard)
+        → Moved n (inside p opened.new) (told_in number p opened.old text.now (line_seen line.now) (telling told step heard))) }
     ensures decided { IfOk result IsDecided }
     ensures well { OnOk result (IsWellOpened opened.new) }
 {
@@ -146,7 +148,9 @@ fn play(
 ) -> Result<Next, AllocError>
     requires ranges { IsLine (line_seen line.now) }
     requires well { IsWellOpened opened.old }
-    ensures moves { IfOk result (λ n. (p : ThePlan) → p.config ≡ model.now → Moved n (inside p opened.new) (told_in number p opened.old text.now (line_seen line.now) (told_of model.now (form_in opened.old.form) (line_seen line.now)))) }
+    ensures moves { IfOk result (λ n. (p : ThePlan) → p.config ≡ model.now
+        → Moved n (inside p opened.new) (told_in number p opened.old text.now (line_seen line.now)
+        (told_of model.now (form_in opened.old.form) (line_seen line.now)))) }
     ensures decided { IfOk result IsDecided }
     ensures well { OnOk result (IsWellOpened opened.new) }
 {
@@ -171,7 +175,8 @@ fn read_opened(
 ) -> Result<Next, AllocError>
     requires ranges { IsLine (line_seen line.now) }
     requires well { IsWellOpened opened.old }
-    ensures moves { IfOk result (λ n. (p : ThePlan) → p.config ≡ model.now → Moved n (inside p opened.new) (inside_step number p opened.old text.now (line_seen line.now))) }
+    ensures moves { IfOk result (λ n. (p : ThePlan) → p.config ≡ model.now
+        → Moved n (inside p opened.new) (inside_step number p opened.old text.now (line_seen line.now))) }
     ensures decided { IfOk result IsDecided }
     ensures well { OnOk result (IsWellOpened opened.new) }
 {
@@ -416,7 +421,8 @@ impl Scripts {
     ) -> Result<Next, AllocError>
         requires ranges { IsView (view_seen view.now) }
         requires well { IsWellScripts self.old }
-        ensures moves { IfOk result (λ n. Moved n (scripts_seen self.new) (among_line number (plan_seen self.old.plan) self.old.current text.now (view_seen view.now))) }
+        ensures moves { IfOk result (λ n. Moved n (scripts_seen self.new)
+            (among_line number (plan_seen self.old.plan) self.old.current text.now (view_seen view.now))) }
         ensures decided { IfOk result IsDecided }
         ensures well { OnOk result (IsWellScripts self.new) }
     {

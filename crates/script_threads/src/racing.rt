@@ -45,7 +45,8 @@ fn play_all<R: Threads + Wait + Sync, M: StateMachine, G: Gate>(
     requires { All (λ j. IsReady history.now j.pass j.script j.replies) jobs.items }
     ensures len { IfOk result (λ v. length v.items ≡ length jobs.items) }
     ensures each { IfOk result (λ v. (i : ℕ) (x : Known × TheScript) (d : TheGiven M) → i < length jobs.items
-        → Went (slice_index_or (map (λ j. (j.pass, j.script)) jobs.items) i x).0 (slice_index_or (map (λ j. (j.pass, j.script)) jobs.items) i x).1 (slice_index_or v.items i d)) }
+        → Went (slice_index_or (map (λ j. (j.pass, j.script)) jobs.items) i x).0 (slice_index_or (map (λ j. (j.pass, j.script)) jobs.items) i x).1
+        (slice_index_or v.items i d)) }
 {
     map_vec(
         rt,

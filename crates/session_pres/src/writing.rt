@@ -3,8 +3,10 @@
 ghost use Rattle.std.specs.Prelude.{◌≡◌, ◌+◌, ◌<◌, ◌≤◌, ◌^◌, ◌++◌, length, OnOk, IfOk};
 ghost use Rattle.std.specs.List.{flat_map};
 ghost use Rattle.ber_write.specs.Minimal.{octets_of, uint_octets, element_size};
-ghost use Rattle.session_pres.specs.Written.{pdv_fields, pdv_list, user_octets, length_field, field, data_spdu, release_spdu, accept_parameters, accept_spdu, connect_item};
-ghost use Rattle.session_pres.specs.WrittenPpdu.{set_content, ppdu, result_octets, cpa_parameters, cpa_octets, cp_head, cp_octets, connect_parameters, connect_spdu};
+ghost use Rattle.session_pres.specs.Written.{pdv_fields, pdv_list, user_octets, length_field, field, data_spdu, release_spdu, accept_parameters};
+ghost use Rattle.session_pres.specs.Written.{accept_spdu, connect_item};
+ghost use Rattle.session_pres.specs.WrittenPpdu.{set_content, ppdu, result_octets, cpa_parameters, cpa_octets, cp_head, cp_octets};
+ghost use Rattle.session_pres.specs.WrittenPpdu.{connect_parameters, connect_spdu};
 
 use crate::codes::{
     ACCEPT, CONNECT, CONTEXT_RESULT_LIST, DATA_TRANSFER, DISCONNECT, FINISH, FULLY_ENCODED_DATA,

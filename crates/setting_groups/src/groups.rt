@@ -61,7 +61,9 @@ impl Groups {
     ghost use Rattle.std.specs.Prelude.{◌≡◌, ◌<◌, ◌==◌, OnOk, OnErr, length, true, if◌then◌else◌};
     ghost use Rattle.std.specs.Option.{option_map};
     ghost use Rattle.sv_base.specs.Kinds.{is_kind, is_in_range};
-    ghost use Rattle.setting_groups.specs.Grouped.{domain_at, setting_at, act_answer, edit_answer, copy_answer, stored_answer, number_in, is_on, holds, edit_number, active_place, after_act, after_edit, after_copy, after_confirm, after_loss, after_put, active_of, copy_of, shown_of};
+    ghost use Rattle.setting_groups.specs.Grouped.{domain_at, setting_at, act_answer, edit_answer, copy_answer, stored_answer, number_in, is_on};
+    ghost use Rattle.setting_groups.specs.Grouped.{holds, edit_number, active_place, after_act, after_edit, after_copy, after_confirm, after_loss};
+    ghost use Rattle.setting_groups.specs.Grouped.{after_put, active_of, copy_of, shown_of};
 
     /// These blocks and settings. It takes no memory.
     pub(crate) fn of(domains: Vec<Domain>, settings: Vec<Setting>) -> Groups

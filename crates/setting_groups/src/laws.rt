@@ -87,11 +87,13 @@ pub fn values_are_set()
     ensures act { (c : Model) (s : Grouped) (a d g k n m : ℕ) (before : Past) → Stands s c before → d < length s.domains → 1 ≤ g
         → g ≤ (groups_of c d).count → k < length s.settings
         → value_at c (setting_at s k).attr (at n m (activated a d g) ∷ before)
-        ≡ (if (setting_at s k).domain == d then (slice_index_or (setting_at s k).groups (g - 1) (setting_at s k).copy).value else value_at c (setting_at s k).attr before) }
+        ≡ (if (setting_at s k).domain == d then (slice_index_or (setting_at s k).groups (g - 1) (setting_at s k).copy).value
+        else value_at c (setting_at s k).attr before) }
     ensures confirm { (c : Model) (s : Grouped) (a d k n m : ℕ) (before : Past) → Stands s c before → d < length s.domains
         → is_some (edit d before) ≡ true → k < length s.settings
         → value_at c (setting_at s k).attr (at n m (confirmed a d) ∷ before)
-        ≡ (if ((setting_at s k).domain == d) && (edit_number (domain_at s d) == (domain_at s d).active) then (setting_at s k).copy.value else value_at c (setting_at s k).attr before) }
+        ≡ (if ((setting_at s k).domain == d) && (edit_number (domain_at s d) == (domain_at s d).active) then
+        (setting_at s k).copy.value else value_at c (setting_at s k).attr before) }
 {}
 
 /// What comes of a client's write of a component of the setting group block of a domain, and what such a component reads, is what the

@@ -7,7 +7,10 @@ ghost use Rattle.sv_base.specs.Kinds.{kind_of};
 ghost use Rattle.sv_base.specs.Kinds.{is_kind, is_in_range};
 ghost use Rattle.bay_rooms.specs.Slots.{IsSettable};
 ghost use Rattle.name_leaves.specs.Attributes.{types_of};
-ghost use Rattle.step_fitting.specs.Fits.{is_visible as is_visible_octets, is_sound as is_sound_value, are_sound as are_sound_row, name_fits as name_fits_in, target_fits as target_fits_in, write_fits as write_fits_in, set_fits as set_fits_in, set_name_fits, service_fits as service_fits_in, setting_fits as setting_fits_in, is_association as is_association_number, step_fits as step_fits_in};
+ghost use Rattle.step_fitting.specs.Fits.{is_visible as is_visible_octets, is_sound as is_sound_value, are_sound as are_sound_row};
+ghost use Rattle.step_fitting.specs.Fits.{name_fits as name_fits_in, target_fits as target_fits_in, write_fits as write_fits_in};
+ghost use Rattle.step_fitting.specs.Fits.{set_fits as set_fits_in, set_name_fits, service_fits as service_fits_in, setting_fits as setting_fits_in};
+ghost use Rattle.step_fitting.specs.Fits.{is_association as is_association_number, step_fits as step_fits_in};
 
 use bay_model::{AttrRow, ObjName, Service, SetName, Setting, Step, Target, Write};
 use bay_rooms::{fits_int, fits_uint};

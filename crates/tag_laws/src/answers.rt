@@ -1,7 +1,9 @@
 //! The tags of responses alone (ISO 9506-2, Confirmed-ResponsePDU and the productions below it), by their numbers.
 
 ghost use Rattle.std.specs.Prelude.{◌≡◌};
-ghost use Rattle.bay_answers.specs.declared.tags.TheConstants.{STATUS, IDENTIFY, DEFINE_LIST, LIST_OF_IDENTIFIER, MORE_FOLLOWS, VENDOR_NAME, MODEL_NAME, REVISION, MMS_DELETABLE, TYPE_DESCRIPTION, LIST_OF_VARIABLE, NUMBER_MATCHED, NUMBER_DELETED};
+ghost use Rattle.bay_answers.specs.declared.tags.TheConstants.{STATUS, IDENTIFY, DEFINE_LIST, LIST_OF_IDENTIFIER, MORE_FOLLOWS, VENDOR_NAME};
+ghost use Rattle.bay_answers.specs.declared.tags.TheConstants.{MODEL_NAME, REVISION, MMS_DELETABLE, TYPE_DESCRIPTION, LIST_OF_VARIABLE};
+ghost use Rattle.bay_answers.specs.declared.tags.TheConstants.{NUMBER_MATCHED, NUMBER_DELETED};
 
 /// The tags of responses alone (ISO 9506-2, Confirmed-ResponsePDU and the productions below it): the numbers of the code's
 /// table, which the definitions of `bay_answers` read too.

@@ -1,7 +1,9 @@
 //! The tags of APDUs and of their fields (ISO 8650-1, the module "ACSE-1"), by their numbers.
 
 ghost use Rattle.std.specs.Prelude.{◌≡◌};
-ghost use Rattle.acse_apdu.specs.declared.codes.TheConstants.{AARQ, AARE, RLRQ, RLRE, APPLICATION_CONTEXT_NAME, RESULT, RESULT_SOURCE_DIAGNOSTIC, SERVICE_USER, USER_INFORMATION, REASON, EXTERNAL, SINGLE_ASN1_TYPE, INTEGER, OBJECT_IDENTIFIER};
+ghost use Rattle.acse_apdu.specs.declared.codes.TheConstants.{AARQ, AARE, RLRQ, RLRE, APPLICATION_CONTEXT_NAME, RESULT, RESULT_SOURCE_DIAGNOSTIC};
+ghost use Rattle.acse_apdu.specs.declared.codes.TheConstants.{SERVICE_USER, USER_INFORMATION, REASON, EXTERNAL, SINGLE_ASN1_TYPE, INTEGER};
+ghost use Rattle.acse_apdu.specs.declared.codes.TheConstants.{OBJECT_IDENTIFIER};
 
 /// The tags of APDUs and of their fields (ISO 8650-1, the module "ACSE-1"): the numbers of the code's table, which the definitions of
 /// `acse_apdu` read too.

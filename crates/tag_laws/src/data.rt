@@ -1,7 +1,8 @@
 //! The tags of Data and of TypeDescription (ISO 9506-2), by their numbers.
 
 ghost use Rattle.std.specs.Prelude.{◌≡◌};
-ghost use Rattle.mms_data.specs.declared.tags.TheConstants.{BOOLEAN, BIT_STRING, INTEGER, UNSIGNED, OCTET_STRING, VISIBLE_STRING, BINARY_TIME, UTC_TIME, STRUCTURE, COMPONENTS, COMPONENT, COMPONENT_NAME, COMPONENT_TYPE};
+ghost use Rattle.mms_data.specs.declared.tags.TheConstants.{BOOLEAN, BIT_STRING, INTEGER, UNSIGNED, OCTET_STRING, VISIBLE_STRING, BINARY_TIME};
+ghost use Rattle.mms_data.specs.declared.tags.TheConstants.{UTC_TIME, STRUCTURE, COMPONENTS, COMPONENT, COMPONENT_NAME, COMPONENT_TYPE};
 
 /// The tags of Data and of TypeDescription (ISO 9506-2): the numbers of the code's
 /// table, which the definitions of `mms_data` read too.

@@ -1,7 +1,10 @@
 //! The codes of SPDUs and of their parameters (ISO 8327-1) and the tags of PPDUs (ISO 8823-1), by their numbers.
 
 ghost use Rattle.std.specs.Prelude.{◌≡◌};
-ghost use Rattle.session_pres.specs.declared.codes.TheConstants.{GIVE_TOKENS, DATA_TRANSFER, FINISH, DISCONNECT, CONNECT, ACCEPT, ABORT, CONNECT_ACCEPT_ITEM, USER_DATA, MODE_SELECTOR, MODE_VALUE, NORMAL_MODE_PARAMETERS, CONTEXT_DEFINITION_LIST, CONTEXT_RESULT_LIST, RESULT, TRANSFER_SYNTAX, FULLY_ENCODED_DATA, SINGLE_ASN1_TYPE, INTEGER, OBJECT_IDENTIFIER, SEQUENCE, SET};
+ghost use Rattle.session_pres.specs.declared.codes.TheConstants.{GIVE_TOKENS, DATA_TRANSFER, FINISH, DISCONNECT, CONNECT, ACCEPT, ABORT};
+ghost use Rattle.session_pres.specs.declared.codes.TheConstants.{CONNECT_ACCEPT_ITEM, USER_DATA, MODE_SELECTOR, MODE_VALUE, NORMAL_MODE_PARAMETERS};
+ghost use Rattle.session_pres.specs.declared.codes.TheConstants.{CONTEXT_DEFINITION_LIST, CONTEXT_RESULT_LIST, RESULT, TRANSFER_SYNTAX};
+ghost use Rattle.session_pres.specs.declared.codes.TheConstants.{FULLY_ENCODED_DATA, SINGLE_ASN1_TYPE, INTEGER, OBJECT_IDENTIFIER, SEQUENCE, SET};
 
 /// The codes of SPDUs and of their parameters (ISO 8327-1) and the tags of PPDUs (ISO 8823-1): the numbers of the code's table, which
 /// the definitions of `session_pres` read too.

@@ -2,7 +2,8 @@
 
 ghost use Rattle.std.specs.Prelude.{◌≡◌, ◌≤◌, MatchOption};
 ghost use Rattle.std.specs.Str.Parse.{digits_value};
-ghost use Rattle.text_words.specs.Numbers.{AreDigitsOf64, number_at, number_within, int_at, negatives as negatives_of, minus as minus_of, positive_at, negative_at};
+ghost use Rattle.text_words.specs.Numbers.{AreDigitsOf64, number_at, number_within, int_at, negatives as negatives_of, minus as minus_of};
+ghost use Rattle.text_words.specs.Numbers.{positive_at, negative_at};
 
 use crate::words::after_front;
 

@@ -4,7 +4,8 @@ ghost use Rattle.std.specs.Prelude.{◌≡◌, ◌++◌, ◌∷◌, length, take
 ghost use Rattle.std.specs.Fmt.{decimal};
 ghost use Rattle.std.specs.List.{flat_map};
 ghost use Rattle.hex.specs.Hex.{encode_lower};
-ghost use Rattle.text_words.specs.Spelled.{bits_word as word_of_bits, text_word, time_octets as octets_of_time, value_word as word_of_value, type_word as word_of_type, flags_word as word_of_flags, spaced};
+ghost use Rattle.text_words.specs.Spelled.{bits_word as word_of_bits, text_word, time_octets as octets_of_time, value_word as word_of_value};
+ghost use Rattle.text_words.specs.Spelled.{type_word as word_of_type, flags_word as word_of_flags, spaced};
 
 use itoa::Buffer;
 use std::alloc::{AllocError, Global};

@@ -1,7 +1,8 @@
 //! The values that words spell.
 
 ghost use Rattle.std.specs.Prelude.{◌≡◌, ◌==◌, [], ◌≤◌, IfOk, length, map, option_copied};
-ghost use Rattle.text_words.specs.Values.{truth_at, bits_at, text_at, hex_at, octets_at, utc_of as utc_of_octets, time_at, value_at, is_hex as hex_digit, is_graphic as graphic, is_binary as binary, option_items};
+ghost use Rattle.text_words.specs.Values.{truth_at, bits_at, text_at, hex_at, octets_at, utc_of as utc_of_octets, time_at, value_at};
+ghost use Rattle.text_words.specs.Values.{is_hex as hex_digit, is_graphic as graphic, is_binary as binary, option_items};
 ghost use Rattle.std.specs.List.{list_all};
 ghost use Rattle.text_words.specs.Values.{values_at, option_values};
 ghost use Rattle.text_words.specs.Words.{texts};

@@ -19,7 +19,8 @@ fn gather_change(change: Change, touches: &[Touch], trgs: &[Trg], out: &mut Note
     requires fits { (b : ℕ) → b < length out.old.notes → CanAdd b touches.now (note_at out.old.notes b) }
     ensures count { length out.new.notes ≡ length out.old.notes }
     ensures rooms { (b : ℕ) → (note_at out.new.notes b).room ≡ (note_at out.old.notes b).room }
-    ensures items { (b : ℕ) → b < length out.old.notes → (note_at out.new.notes b).items ≡ add_touched b (trg_at trgs.now b) change touches.now (note_at out.old.notes b).items }
+    ensures items { (b : ℕ) → b < length out.old.notes → (note_at out.new.notes b).items ≡ add_touched b (trg_at trgs.now b) change touches.now
+        (note_at out.old.notes b).items }
 {
     for touch in touches {
         let reasons = reasons_by(trgs[touch.block.0 as usize], change);
@@ -50,7 +51,8 @@ impl Index {
         requires once { AreOnce changes.now }
         ensures count { length out.new.notes ≡ length out.old.notes }
         ensures rooms { (b : ℕ) → (note_at out.new.notes b).room ≡ (note_at out.old.notes b).room }
-        ensures noted { (b : ℕ) (members : List MemberShape) → b < length self.now.blocks → IsSetOf self.now.blocks b members → (note_at out.new.notes b).items ≡ noted changes.now (trg_at trgs.now b) 1 members }
+        ensures noted { (b : ℕ) (members : List MemberShape) → b < length self.now.blocks → IsSetOf self.now.blocks b members
+            → (note_at out.new.notes b).items ≡ noted changes.now (trg_at trgs.now b) 1 members }
     {
         let _ = &self.blocks;
         // Steps give on what they set last first, and most set attributes in their order: so most members come behind the others.

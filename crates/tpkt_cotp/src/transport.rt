@@ -9,7 +9,8 @@ ghost use Rattle.ber_grammar.specs.Octets.{IsBytes};
 ghost use Rattle.tpkt_cotp.specs.Failing.{Fails};
 ghost use Rattle.tpkt_cotp.specs.Packet.{packet, IsPartial};
 ghost use Rattle.tpkt_cotp.specs.Tpdu.{tpdu_at};
-ghost use Rattle.tpkt_cotp.specs.Stream.{TookAll, StopsAt, StandsFor, HasRefused, GoesOn, Refuses, gift, Advances, FailsAt, IsReady, StepsFrom, StepFails, StepsOn, IsRefused};
+ghost use Rattle.tpkt_cotp.specs.Stream.{TookAll, StopsAt, StandsFor, HasRefused, GoesOn, Refuses, gift, Advances, FailsAt, IsReady, StepsFrom};
+ghost use Rattle.tpkt_cotp.specs.Stream.{StepFails, StepsOn, IsRefused};
 
 use crate::fault::TpFault;
 use crate::octets::Gathered;

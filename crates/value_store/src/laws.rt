@@ -29,8 +29,10 @@ ghost use Rattle.value_store.specs.Wholes.{Stands, HasForm, tree_attrs, AreSetta
 pub fn opened_as_configured()
     ensures count { (c : Config) → HasDomains c → length (opened c) ≡ length (attributes c) }
     ensures stands { (c : Config) → HasDomains c → Stands (opened c) (configured_model c) [] }
-    ensures kinds { (c : Config) (x : ℕ) → HasDomains c → x < length (attributes c) → (attribute (opened c) x).held.kind ≡ (attr_of (configured_model c) x).kind }
-    ensures writable { (c : Config) (x : ℕ) → HasDomains c → x < length (attributes c) → (attribute (opened c) x).is_writable ≡ is_writable (attr_of (configured_model c) x).access }
+    ensures kinds { (c : Config) (x : ℕ) → HasDomains c → x < length (attributes c)
+        → (attribute (opened c) x).held.kind ≡ (attr_of (configured_model c) x).kind }
+    ensures writable { (c : Config) (x : ℕ) → HasDomains c → x < length (attributes c)
+        → (attribute (opened c) x).is_writable ≡ is_writable (attr_of (configured_model c) x).access }
 {}
 
 /// In a store that stands for a history the Data of a member is that of its node's whole value there, as the model of the
@@ -49,7 +51,8 @@ pub fn values_stand()
         → Stands all c (arrival n m ∷ before) → length new ≡ length all
         → ((x : ℕ) → x < length all → (attribute new x).held.value ≡ unwrap_or (gives c x d before) (attribute all x).held.value)
         → Stands new c (record { moment = m; step = n; deed = d } ∷ before) }
-    ensures again { (all : List Stored) (c : Model) (m n : ℕ) (q : Point) (before : Past) → Stands all c (q ∷ before) → Stands all c (arrival n m ∷ q ∷ before) }
+    ensures again { (all : List Stored) (c : Model) (m n : ℕ) (q : Point) (before : Past) → Stands all c (q ∷ before)
+        → Stands all c (arrival n m ∷ q ∷ before) }
 {}
 
 /// A store that stands for a history stands for the longer one after a process step's attributes were set in their order.

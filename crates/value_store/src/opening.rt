@@ -29,7 +29,8 @@ fn push(
     requires plain { IsSettable kind.now }
     requires kind { is_kind (kind_of kind.now) value.now ≡ true }
     requires range { is_in_range (kind_of kind.now) value.now ≡ true }
-    ensures { OnOk result (map stored cells.new.items ≡ map stored cells.old.items ++ record { held = record { value = value.now; kind = kind_of kind.now }; is_writable = is_writable } ∷ []) }
+    ensures { OnOk result (map stored cells.new.items ≡ map stored cells.old.items
+        ++ record { held = record { value = value.now; kind = kind_of kind.now }; is_writable = is_writable } ∷ []) }
 {
     let slot = Slot::new(alloc, kind, value)?;
     cells.push(Cell { slot, is_writable })?;
@@ -98,7 +99,8 @@ fn push_lines(
     attrs: &[AttrDef],
 ) -> Result<(), AllocError>
     requires { All (λ a. HasValue a (place_in config.now a)) attrs.now }
-    ensures { OnOk result (map stored cells.new.items ≡ map stored cells.old.items ++ map (λ a. stored_line a (place_in config.now a) (is_written a)) attrs.now) }
+    ensures { OnOk result (map stored cells.new.items ≡ map stored cells.old.items ++ map
+        (λ a. stored_line a (place_in config.now a) (is_written a)) attrs.now) }
 {
     for attr in attrs {
         push_at(

@@ -36,7 +36,8 @@ impl Model for Slots {
 
     ghost view = { λ s. record { members = length s.spans.items; pieces = listed 1 s.spans.items s.octets.items } };
 
-    ghost invariant = { λ s. (length s.spans.items ≤ 256) × (s.octets.room ≡ 504 * length s.spans.items) × (length s.octets.items ≡ total s.spans.items) × AreSpans (length s.octets.items) s.spans.items };
+    ghost invariant = { λ s. (length s.spans.items ≤ 256) × (s.octets.room ≡ 504 * length s.spans.items)
+        × (length s.octets.items ≡ total s.spans.items) × AreSpans (length s.octets.items) s.spans.items };
 }
 
 /// Adds the octets of a span, where there is one.

@@ -23,7 +23,12 @@ impl Model for Window {
 
     ghost Value = { Windowed };
 
-    ghost view = { λ w. record { members = w.slots.members; buf_tm = w.buf_tm; gathered = option_map (λ m. record { moment = m; pieces = w.slots.pieces }) w.begun } };
+    ghost view = { λ w. record {
+      members = w.slots.members;
+      buf_tm = w.buf_tm;
+      gathered = option_map
+          (λ m. record { moment = m; pieces = w.slots.pieces }) w.begun;
+    } };
 
     ghost invariant = { λ w. (w.begun ≡ None → w.slots.pieces ≡ []) × (w.buf_tm ≡ 0 → w.begun ≡ None) };
 }
@@ -32,7 +37,8 @@ impl Window {
     ghost use Rattle.std.specs.Prelude.{◌≡◌, ◌≢◌, ◌≤◌, ◌*◌, ◌||◌, [], false, length, None, Some, IfOk, if◌then◌else◌};
     ghost use Rattle.std.specs.Option.{option_map};
     ghost use Rattle.window_core.specs.Pieces.{pieces, AreRow, AreNumbers};
-    ghost use Rattle.window_core.specs.Windows.{empty, closed, end_of, is_over as is_over_at, over_at, after_time, closed_by, after_event, told, joined, is_met as is_met_in};
+    ghost use Rattle.window_core.specs.Windows.{empty, closed, end_of, is_over as is_over_at, over_at, after_time, closed_by, after_event, told};
+    ghost use Rattle.window_core.specs.Windows.{joined, is_met as is_met_in};
 
     /// An empty window for a data set of so many members, at most 256, under a buffer time in milliseconds. It takes all the
     /// room that it ever needs; no other call takes memory.
@@ -131,7 +137,12 @@ impl Window {
         requires count { length note.now ≡ length bytes.now.items }
         requires apart { is_met_in note.now self.old ≡ false }
         requires time { self.old.buf_tm ≢ 0 }
-        ensures { self.new ≡ record { members = self.old.members; buf_tm = self.old.buf_tm; gathered = Some (joined now (pieces note.now bytes.now.items) self.old.gathered) } }
+        ensures { self.new ≡ record {
+          members = self.old.members;
+          buf_tm = self.old.buf_tm;
+          gathered = Some
+              (joined now (pieces note.now bytes.now.items) self.old.gathered);
+        } }
     {
         self.slots.put_all(note, bytes);
         match self.begun {
@@ -144,7 +155,8 @@ impl Window {
     fn end_before(&mut self, now: Moment, note: &[Mention], out: &mut Fixed) -> Option<Moment>
         requires numbers { AreNumbers self.old.members note.now }
         requires room { 504 * self.old.members ≤ out.old.room }
-        ensures told { option_map (λ m. (m, out.new.items)) result ≡ told (if is_over_at now self.old || is_met_in note.now self.old then self.old.gathered else None) }
+        ensures told { option_map (λ m. (m, out.new.items)) result ≡ told
+            (if is_over_at now self.old || is_met_in note.now self.old then self.old.gathered else None) }
         ensures left { self.new ≡ record self.old { gathered = if is_over_at now self.old || is_met_in note.now self.old then None else self.old.gathered } }
         ensures room { out.new.room ≡ out.old.room }
     {
