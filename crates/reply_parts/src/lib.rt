@@ -2,9 +2,9 @@
 #![tactic(auto)]
 
 mod copies;
-mod owned;
 mod sizes;
+mod values;
 
 pub use copies::{copy_targets, set_name};
-pub use owned::owned;
 pub use sizes::{are_too_long, left_behind, names_within, result_len};
+pub use values::owned;
