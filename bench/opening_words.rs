@@ -189,11 +189,11 @@ impl Type {
     }
 }
 
-pub const BLOCK: [(&[u8], Type); 13] = [
+pub const BLOCK: [(&[u8], Type); 15] = [
     (b"RptID", Type::Text(129)), (b"RptEna", Type::Bool), (b"DatSet", Type::Text(129)), (b"ConfRev", Type::Uint(32)),
     (b"OptFlds", Type::Bits(10)), (b"BufTm", Type::Uint(32)), (b"SqNum", Type::Uint(16)), (b"TrgOps", Type::Bits(6)),
     (b"IntgPd", Type::Uint(32)), (b"GI", Type::Bool), (b"PurgeBuf", Type::Bool), (b"EntryID", Type::EntryId),
-    (b"TimeofEntry", Type::Stamp),
+    (b"TimeofEntry", Type::Stamp), (b"ResvTms", Type::Int(16)), (b"Owner", Type::Octets(64)),
 ];
 pub const GROUPS: [(&[u8], Type); 5] = [
     (b"NumOfSG", Type::Uint(8)), (b"ActSG", Type::Uint(8)), (b"EditSG", Type::Uint(8)), (b"CnfEdit", Type::Bool),

@@ -82,7 +82,7 @@ answer_lines c shape a _ = []
 
 -- the association that a step is of, and 0 where it is of none
 abbrev pub step_association : Step → ℕ
-step_association (steps.Open a size writer) = a.0
+step_association (steps.Open a size writer owner) = a.0
 step_association (steps.Ask a r) = a.0
 step_association (steps.Write a b comp v) = a.0
 step_association (steps.Take a) = a.0

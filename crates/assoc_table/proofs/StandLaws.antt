@@ -33,56 +33,57 @@ moved c a row p before rows number s here others = record {
 pub stands-empty : (c : Model) → Stands (replicate 16 closed) c []
 stands-empty c = record {
   count = length-replicate 16 closed;
-  each = λ a n. subst (λ r. StandsAt r c a []) (sym (get_or-replicate 16 (a - 1) closed closed (omega (arith, n)))) (record { ends = refl; waiting = refl });
+  each = λ a n. subst (λ r. StandsAt r c a []) (sym (get_or-replicate 16 (a - 1) closed closed (omega (arith, n)))) (record { ends = refl; owner = tt; waiting = refl });
 }
 
-pub stands-opened : (c : Model) (a : ℕ) (e : Ends) (p : Point) (before : Past) (rows : List Row) → IsNumber a → Stands rows c before → p.deed ≡ opened a e.opener.0 e.writer.0 e.size
+pub stands-opened : (c : Model) (a : ℕ) (e : Ends) (p : Point) (before : Past) (rows : List Row) → IsNumber a → Stands rows c before → p.deed ≡ opened a e.opener.0 e.writer.0 e.size e.owner
     → Stands (tables.started rows a e) c (p ∷ before)
-stands-opened c a e p before rows number s is = moved c a (record { ends = Some e; waiting = [] }) p before rows number s (record { ends = rw (is, same) refl; waiting = rw (is, same) refl })
-    (λ o h was. record { ends = rw (is, apart a o h) was.ends; waiting = rw (is, apart a o h) was.waiting })
+stands-opened c a e p before rows number s is = moved c a (record { ends = Some e; waiting = [] }) p before rows number s (record { ends = rw (is, same) refl; owner = rw (is, same) refl; waiting = rw (is, same) refl })
+    (λ o h was. record { ends = rw (is, apart a o h) was.ends; owner = rw (is, apart a o h) was.owner; waiting = rw (is, apart a o h) was.waiting })
 
 pub stands-lost : (c : Model) (a : ℕ) (p : Point) (before : Past) (rows : List Row) → IsNumber a → Stands rows c before → p.deed ≡ lost a → Stands (tables.ended rows a) c (p ∷ before)
-stands-lost c a p before rows number s is = moved c a closed p before rows number s (record { ends = rw (is, same) refl; waiting = rw (is, same) refl })
-    (λ o h was. record { ends = rw (is, apart a o h) was.ends; waiting = rw (is, apart a o h) was.waiting })
+stands-lost c a p before rows number s is = moved c a closed p before rows number s (record { ends = rw (is, same) refl; owner = tt; waiting = rw (is, same) refl })
+    (λ o h was. record { ends = rw (is, apart a o h) was.ends; owner = rw is was.owner; waiting = rw (is, apart a o h) was.waiting })
 
 less-one : (rows : List Row) (c : Model) (a : ℕ) (before : Past) → StandsAt (row_of rows a) c a before → map waiting_of (drop 1 (row_of rows a).waiting) ≡ drop 1 (queue.waiting c a before)
 less-one rows c a before was = sym (drop-map waiting_of 1 (row_of rows a).waiting) ∙ ap (drop 1) was.waiting
 
 pub stands-took : (c : Model) (a : ℕ) (p : Point) (before : Past) (rows : List Row) → IsNumber a → Stands rows c before → p.deed ≡ took a → Stands (tables.taken rows a) c (p ∷ before)
 stands-took c a p before rows number s is = moved c a (record { ends = (row_of rows a).ends; waiting = drop 1 (row_of rows a).waiting }) p before rows number s
-    (record { ends = rw is (s.each a number).ends; waiting = rw (is, same) (less-one rows c a before (s.each a number)) })
-    (λ o h was. record { ends = rw is was.ends; waiting = rw (is, apart a o h) was.waiting })
+    (record { ends = rw is (s.each a number).ends; owner = rw is (s.each a number).owner; waiting = rw (is, same) (less-one rows c a before (s.each a number)) })
+    (λ o h was. record { ends = rw is was.ends; owner = rw is was.owner; waiting = rw (is, apart a o h) was.waiting })
 
 pub stands-terminated : (c : Model) (a k : ℕ) (p : Point) (before : Past) (rows : List Row) → IsNumber a → Stands rows c before → p.deed ≡ terminated a k → Stands (tables.taken rows a) c (p ∷ before)
 stands-terminated c a k p before rows number s is = moved c a (record { ends = (row_of rows a).ends; waiting = drop 1 (row_of rows a).waiting }) p before rows number s
-    (record { ends = rw is (s.each a number).ends; waiting = rw (is, same) (less-one rows c a before (s.each a number)) })
-    (λ o h was. record { ends = rw is was.ends; waiting = rw (is, apart a o h) was.waiting })
+    (record { ends = rw is (s.each a number).ends; owner = rw is (s.each a number).owner; waiting = rw (is, same) (less-one rows c a before (s.each a number)) })
+    (λ o h was. record { ends = rw is was.ends; owner = rw is was.owner; waiting = rw (is, apart a o h) was.waiting })
 
 -- what a plain deed leaves
-record IsQuiet (a : ℕ) (d : Deed) (was : Option model.Ends) : Type 0 where
+record IsQuiet (a : ℕ) (d : Deed) (was : Option model.Ends) (o : List ℕ) : Type 0 where
   start : queue.is_start a d ≡ false
   giving : queue.is_giving a d ≡ false
   ends : model.ends_after a d was ≡ was
+  owner : model.address_after a d o ≡ o
 
-quiet : (a : ℕ) (d : Deed) (was : Option model.Ends) → IsPlain d → IsQuiet a d was
-quiet a (opened e o w size) was h = absurd h
-quiet a (lost e) was h = absurd h
-quiet a (took e) was h = absurd h
-quiet a (terminated e k) was h = absurd h
-quiet a (valued settings) was h = record { start = refl; giving = refl; ends = refl }
-quiet a (finished k good) was h = record { start = refl; giving = refl; ends = refl }
-quiet a (blocked k flag) was h = record { start = refl; giving = refl; ends = refl }
-quiet a (wrote e b comp v) was h = record { start = refl; giving = refl; ends = refl }
-quiet a (put e x v) was h = record { start = refl; giving = refl; ends = refl }
-quiet a (copied e x v) was h = record { start = refl; giving = refl; ends = refl }
-quiet a (activated e d n) was h = record { start = refl; giving = refl; ends = refl }
-quiet a (edited e d n) was h = record { start = refl; giving = refl; ends = refl }
-quiet a (confirmed e d) was h = record { start = refl; giving = refl; ends = refl }
-quiet a (called e k call v) was h = record { start = refl; giving = refl; ends = refl }
-quiet a (selected_control e k) was h = record { start = refl; giving = refl; ends = refl }
-quiet a (answered e output change) was h = record { start = refl; giving = refl; ends = refl }
-quiet a (reported e b n) was h = record { start = refl; giving = refl; ends = refl }
-quiet a nothing was h = record { start = refl; giving = refl; ends = refl }
+quiet : (a : ℕ) (d : Deed) (was : Option model.Ends) (o : List ℕ) → IsPlain d → IsQuiet a d was o
+quiet a (opened e i w size owner) was o h = absurd h
+quiet a (lost e) was o h = absurd h
+quiet a (took e) was o h = absurd h
+quiet a (terminated e k) was o h = absurd h
+quiet a (valued settings) was o h = record { start = refl; giving = refl; ends = refl; owner = refl }
+quiet a (finished k good) was o h = record { start = refl; giving = refl; ends = refl; owner = refl }
+quiet a (blocked k flag) was o h = record { start = refl; giving = refl; ends = refl; owner = refl }
+quiet a (wrote e b comp v) was o h = record { start = refl; giving = refl; ends = refl; owner = refl }
+quiet a (put e x v) was o h = record { start = refl; giving = refl; ends = refl; owner = refl }
+quiet a (copied e x v) was o h = record { start = refl; giving = refl; ends = refl; owner = refl }
+quiet a (activated e d n) was o h = record { start = refl; giving = refl; ends = refl; owner = refl }
+quiet a (edited e d n) was o h = record { start = refl; giving = refl; ends = refl; owner = refl }
+quiet a (confirmed e d) was o h = record { start = refl; giving = refl; ends = refl; owner = refl }
+quiet a (called e k call v) was o h = record { start = refl; giving = refl; ends = refl; owner = refl }
+quiet a (selected_control e k) was o h = record { start = refl; giving = refl; ends = refl; owner = refl }
+quiet a (answered e output change) was o h = record { start = refl; giving = refl; ends = refl; owner = refl }
+quiet a (reported e b n) was o h = record { start = refl; giving = refl; ends = refl; owner = refl }
+quiet a nothing was o h = record { start = refl; giving = refl; ends = refl; owner = refl }
 
 extended-is : (ws vs : List queue.Waiting) → extended ws vs ≡ ws ++ vs
 extended-is ws [] = sym (append-nil ws)
@@ -92,15 +93,16 @@ extended-is ws (v ∷ vs) = refl
 plain-at : (c : Model) (e : ℕ) (p : Point) (before : Past) (row : Row) (items : List Waiting) → StandsAt row c e before → IsPlain p.deed → put_by c e p.step p.deed before ≡ map waiting_of items
     → StandsAt (record { ends = row.ends; waiting = row.waiting ++ items }) c e (p ∷ before)
 plain-at c e p before row items was plain puts =
-    let q = quiet e p.deed (model.ends e before) plain in
+    let q = quiet e p.deed (model.ends e before) (model.address e before) plain in
     record {
       ends = rw q.ends was.ends;
+      owner = rw q.owner was.owner;
       waiting = rw (q.start, q.giving, puts, extended-is (queue.waiting c e before) (map waiting_of items)) (map-append waiting_of row.waiting items ∙ ap (λ l. l ++ map waiting_of items) was.waiting);
     }
 
 stays-at : (c : Model) (e : ℕ) (p : Point) (before : Past) (row : Row) → StandsAt row c e before → IsPlain p.deed → put_by c e p.step p.deed before ≡ [] → StandsAt row c e (p ∷ before)
 stays-at c e p before row was plain puts =
-    let q = quiet e p.deed (model.ends e before) plain in record { ends = rw q.ends was.ends; waiting = rw (q.start, q.giving, puts) was.waiting }
+    let q = quiet e p.deed (model.ends e before) (model.address e before) plain in record { ends = rw q.ends was.ends; owner = rw q.owner was.owner; waiting = rw (q.start, q.giving, puts) was.waiting }
 
 pub stands-put : (c : Model) (a : ℕ) (items : List Waiting) (p : Point) (before : Past) (rows : List Row) → IsNumber a → Stands rows c before → IsPlain p.deed → put_by c a p.step p.deed before ≡ map waiting_of items
     → ((e : ℕ) → e ≢ a → put_by c e p.step p.deed before ≡ []) → Stands (tables.extended rows a items) c (p ∷ before)
@@ -117,7 +119,7 @@ pub stands-arrival : (c : Model) (m n : ℕ) (before : Past) (rows : List Row) �
 stands-arrival c m n before rows s = stands-other c (arrival n m) before rows s tt (λ e. refl)
 
 before-arrival : (c : Model) (m n : ℕ) (before : Past) (rows : List Row) → Stands rows c (arrival n m ∷ before) → Stands rows c before
-before-arrival c m n before rows s = record { count = s.count; each = λ a number. (let x = s.each a number in record { ends = x.ends; waiting = x.waiting }) }
+before-arrival c m n before rows s = record { count = s.count; each = λ a number. (let x = s.each a number in record { ends = x.ends; owner = x.owner; waiting = x.waiting }) }
 
 plain-deed : (c : Model) (p : Point) (before : Past) (rows : List Row) (k : Coming) → Stands rows c before → IsPlain p.deed → IsComing k c p.step p.deed before → Stands (put_for k.a k.items rows) c (p ∷ before)
 plain-deed c p before rows k s plain is = by k.items refl where
@@ -130,8 +132,8 @@ plain-deed c p before rows k s plain is = by k.items refl where
 
 pub stands-deed : (c : Model) (m n : ℕ) (d : Deed) (before : Past) (rows : List Row) (k : Coming) → Stands rows c (arrival n m ∷ before) → IsComing k c n d before
     → Stands (came d k rows) c (record { moment = m; step = n; deed = d } ∷ before)
-stands-deed c m n (opened a o w size) before rows k s is =
-    stands-opened c a (record { opener = record { 0 = o }; writer = record { 0 = w }; size = size }) (record { moment = m; step = n; deed = opened a o w size }) before rows is.number (before-arrival c m n before rows s) refl
+stands-deed c m n (opened a o w size owner) before rows k s is =
+    stands-opened c a (record { opener = record { 0 = o }; writer = record { 0 = w }; size = size; owner = owner }) (record { moment = m; step = n; deed = opened a o w size owner }) before rows is.number (before-arrival c m n before rows s) refl
 stands-deed c m n (lost a) before rows k s is = stands-lost c a (record { moment = m; step = n; deed = lost a }) before rows is.number (before-arrival c m n before rows s) refl
 stands-deed c m n (took a) before rows k s is = stands-took c a (record { moment = m; step = n; deed = took a }) before rows is.number (before-arrival c m n before rows s) refl
 stands-deed c m n (terminated a j) before rows k s is = stands-terminated c a j (record { moment = m; step = n; deed = terminated a j }) before rows is.number (before-arrival c m n before rows s) refl

@@ -23,7 +23,7 @@ put_for a (w ∷ ws) rows = extended rows a (w ∷ ws)
 
 -- an association is opened or ended, its oldest output is taken, or what the deed puts comes to wait
 abbrev pub came : Deed → Coming → List Row → List Row
-came (opened a opener writer size) k rows = started rows a (record { opener = record { 0 = opener }; writer = record { 0 = writer }; size = size })
+came (opened a opener writer size owner) k rows = started rows a (record { opener = record { 0 = opener }; writer = record { 0 = writer }; size = size; owner = owner })
 came (lost a) k rows = ended rows a
 came (took a) k rows = taken rows a
 came (terminated a control) k rows = taken rows a
@@ -31,7 +31,7 @@ came _ k rows = put_for k.a k.items rows
 
 -- the association that a deed opens, ends or takes from has a number
 abbrev pub IsNumbered : Deed → Type 0
-IsNumbered (opened a opener writer size) = IsNumber a
+IsNumbered (opened a opener writer size owner) = IsNumber a
 IsNumbered (lost a) = IsNumber a
 IsNumbered (took a) = IsNumber a
 IsNumbered (terminated a control) = IsNumber a

@@ -1,5 +1,5 @@
 -- What the associations stand for: those that are open up to a point, and what waits for each.
-use Rattle.std.specs.Prelude.{◌≡◌, ℕ, List, length, map}
+use Rattle.std.specs.Prelude.{◌≡◌, ℕ, List, length, map, Option, None, Some}
 use Rattle.std.specs.Option.{option_map}
 use Rattle.bay_model.specs.Model.{Model}
 use Rattle.bay_model.specs.Points.{Deed, opened, lost, took, terminated, Past}
@@ -18,9 +18,15 @@ abbrev pub waiting_of : Waiting → queue.Waiting
 waiting_of (Reply output) = queue.reply output
 waiting_of (Termination k good) = queue.ending k.0 good
 
+-- where it is open, its address is this one
+abbrev pub HasAddress : Option Ends → List ℕ → Type 0
+HasAddress None owner = Unit {0}
+HasAddress (Some e) owner = e.owner ≡ owner
+
 -- association a
 pub record StandsAt (row : Row) (c : Model) (a : ℕ) (past : Past) : Type 0 where
   pub ends : option_map ends_of row.ends ≡ model.ends a past
+  pub owner : HasAddress row.ends (model.address a past)
   pub waiting : map waiting_of row.waiting ≡ queue.waiting c a past
 
 pub record Stands (rows : List Row) (c : Model) (past : Past) : Type 0 where
@@ -29,7 +35,7 @@ pub record Stands (rows : List Row) (c : Model) (past : Past) : Type 0 where
 
 -- a point that opens and loses no association, and takes nothing that waits
 abbrev pub IsPlain : Deed → Type 0
-IsPlain (opened a opener writer size) = ⊥
+IsPlain (opened a opener writer size owner) = ⊥
 IsPlain (lost a) = ⊥
 IsPlain (took a) = ⊥
 IsPlain (terminated a k) = ⊥

@@ -4,7 +4,7 @@ use crate::seat::Seat;
 use crate::waiting::{Ends, Full, Waiting};
 use std::alloc::{AllocError, Global};
 use std::marker::Model;
-use sv_base::{ActorNo, AssocNo};
+use sv_base::{ActorNo, AssocNo, Owner};
 
 /// How many associations there may be.
 const COUNT: usize = 16;
@@ -85,6 +85,14 @@ impl Assocs {
         ensures { result ≡ option_map (λ e. e.size) (row_of self.now a.0).ends }
     {
         self.seat(a).ends().map(|ends| ends.size)
+    }
+
+    /// Its address; none exactly where it isn't open.
+    pub fn owner(&self, a: AssocNo) -> Option<Owner>
+        requires { IsNumber a.0 }
+        ensures { result ≡ option_map (λ e. e.owner) (row_of self.now a.0).ends }
+    {
+        self.seat(a).ends().map(|ends| ends.owner)
     }
 
     /// Opens an association that isn't open. It takes no memory.

@@ -1,7 +1,7 @@
 //! What waits for an association, and the ends of one.
 
 use bay_model::Output;
-use sv_base::{ActorNo, CtlNo};
+use sv_base::{ActorNo, CtlNo, Owner};
 
 /// An output that waits to be taken: a reply with the errors before it, or the termination of a control, positive or
 /// negative.
@@ -15,7 +15,7 @@ pub enum Waiting {
 #[derive(Clone, Copy, Debug, PartialEq, Eq)]
 pub struct Full;
 
-/// The two ends of an open association, and its greatest size of a PDU.
+/// The two ends of an open association, its greatest size of a PDU, and its address.
 #[derive(Clone, Copy, Debug)]
 pub struct Ends {
     /// Who opened it.
@@ -24,4 +24,6 @@ pub struct Ends {
     pub writer: ActorNo,
     /// In octets, 1024 to 65000.
     pub size: u32,
+    /// Its address.
+    pub owner: Owner,
 }

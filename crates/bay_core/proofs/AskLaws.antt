@@ -165,7 +165,7 @@ changed-with z w c n t a output change ks past told number here same blocks all 
       controls = subst (λ (table : Table). ControlsStand table m (at n t d ∷ past)) (sym (ap (λ (s : State). s.controls) same)) wait.controls;
       sets = all;
       configured = configured ∙ here.configured;
-      blocks = parts-left m n t d past w.parts w.parts (record { note = λ b. refl; cuts = λ b. refl }) (λ b q there. (q, there, refl)) blocks;
+      blocks = parts-left m n t d past w.parts w.parts (record { address = refl; opens = λ b. tt; note = λ b. refl; cuts = λ b. refl }) (λ b q there. (q, there, refl)) blocks;
     }
 
 -- where nothing was tested

@@ -64,7 +64,7 @@ called-at : (z : State) (c : Config) (n t a k : ℕ) (call : Call) (v : Value) (
     → StandsAt (record z { controls = after_deed (deed_of (outcome_of_call (configured_model c) a k call v w)) z.controls }) c n (at n t (deed_of (outcome_of_call (configured_model c) a k call v w)) ∷ past)
 called-at z c n t a k call v past accepted here =
     came-of z c n t (called a k call v) past z.stored z.parts z.groups (record { number = tt; puts = λ e. refl; sets = refl }) here.values
-    (parts-left (configured_model c) n t (called a k call v) past z.parts z.parts (record { note = λ b. refl; cuts = λ b. refl }) (λ b q there. (q, there, refl)) here.blocks) (groups-quiet z c n t (called a k call v) past tt here) here
+    (parts-left (configured_model c) n t (called a k call v) past z.parts z.parts (record { address = refl; opens = λ b. tt; note = λ b. refl; cuts = λ b. refl }) (λ b q there. (q, there, refl)) here.blocks) (groups-quiet z c n t (called a k call v) past tt here) here
 called-at z c n t a k call v past mistyped here = here
 called-at z c n t a k call v past (barred cause) here = here
 

@@ -1,20 +1,23 @@
 -- A point that opens or loses an association, from its arrival.
-use Rattle.std.proofs.Common.{◌≡◌, ℕ, suc, true, false, List, ◌∷◌, Option, None, Some, refl, ap, arith, sym, ◌⊎◌}
+use Rattle.std.proofs.Common.{◌≡◌, ℕ, suc, max, Bool, true, false, List, ◌∷◌, Option, None, Some, refl, ap, arith, sym, subst, ◌∙◌, ◌⊎◌}
 use Rattle.std.specs.Prelude.{if◌then◌else◌, is_some, ◌==◌, ◌||◌}
 use Rattle.std.specs.Option.{option_map}
 use Rattle.std.proofs.lemmas.Bool.Decides.{nat_tests}
 use Rattle.list_laws.proofs.Options.{some_is}
 use Rattle.list_laws.proofs.Places.{got-map}
+use Rattle.list_laws.proofs.Truths.{never}
 use Rattle.sv_base.specs.declared.config.Config.{Config}
 use Rattle.sv_base.specs.declared.numbers.AssocNo.{AssocNo}
 use Rattle.sv_base.specs.declared.numbers.ActorNo.{ActorNo}
 use Rattle.bay_model.specs.Model.{Model}
 use Rattle.bay_model.specs.Named.{configured_model}
-use Rattle.bay_model.specs.Points.{Point, Past, opened, lost}
+use Rattle.bay_model.specs.Answers.{History, points}
+use Rattle.bay_model.specs.Blocks.{is_enabled_by}
+use Rattle.bay_model.specs.Points.{Point, Past, now, opened, lost}
 use Rattle.bay_model.specs.Singles.{arrival}
 use Rattle.bay_model.specs.Associations as model
 use Rattle.bay_model.specs.Associations.{ends}
-use Rattle.bay_model.specs.Acceptance.{IsOpen, if_open}
+use Rattle.bay_model.specs.Acceptance.{IsHistory, IsOpen, if_open}
 use Rattle.assoc_table.specs.declared.waiting.Ends.{Ends}
 use Rattle.assoc_table.specs.Seats.{Row}
 use Rattle.assoc_table.specs.Tables.{IsNumber, row_of, started, ended}
@@ -25,6 +28,8 @@ use Rattle.setting_groups.specs.Grouped.{after_loss}
 use Rattle.setting_groups.proofs.StandLaws.{arrived, loses}
 use Rattle.report_block.specs.Writes.{lost_by}
 use Rattle.block_events.specs.Parting.{after_loss_all}
+use Rattle.block_events.proofs.PartLaws.{AreLeft}
+use Rattle.bay_model.proofs.ReservationLaws.{enablers_are_open}
 use Rattle.bay_core.specs.State.{State}
 use Rattle.bay_core.specs.Standing.{StandsAt}
 use Rattle.bay_core.proofs.MoveLaws.{groups-quiet, passed}
@@ -36,6 +41,13 @@ open-told m rows past a st number = by (row_of rows a).ends (ends a past) (st.ea
   by : (e : Option Ends) (f : Option model.Ends) → option_map ends_of e ≡ f → is_some e ≡ is_some f
   by None f is = ap is_some is
   by (Some e) f is = ap is_some is
+
+-- whom somebody opened is open
+pub opened-by : (rows : List Row) (a : ℕ) (opener : ActorNo) → option_map (λ (e : Ends). e.opener) (row_of rows a).ends ≡ Some opener → is_some (row_of rows a).ends ≡ true
+opened-by rows a opener is = by (row_of rows a).ends is where
+  by : (x : Option Ends) → option_map (λ (e : Ends). e.opener) x ≡ Some opener → is_some x ≡ true
+  by None is = cc
+  by (Some e) is = refl
 
 -- opened by the one, with the other to take for it
 pub ends-told : (m : Model) (rows : List Row) (past : Past) (a : ℕ) (opener writer : ActorNo) → AssociationsStand rows m past → IsNumber a
@@ -50,12 +62,19 @@ ends-told m rows past a opener writer st number one other = by (row_of rows a).e
 -- ---- opened
 
 abbrev pub opening : ℕ → ℕ → ℕ → Ends → Point
-opening n t a e = at n t (opened a e.opener.0 e.writer.0 e.size)
+opening n t a e = at n t (opened a e.opener.0 e.writer.0 e.size e.owner)
 
-pub opened-at : (s : State) (c : Config) (n t a : ℕ) (e : Ends) (past : Past) → IsNumber a → StandsAt s c n (arrival n t ∷ past)
+pub opened-at : (s : State) (c : Config) (n t a : ℕ) (e : Ends) (past : Past) → IsNumber a → ((b : ℕ) → is_enabled_by b a past ≡ false) → StandsAt s c n (arrival n t ∷ past)
     → StandsAt (record s { steps = suc s.steps; rows = started s.rows a e }) c (suc n) (opening n t a e ∷ past)
-opened-at s c n t a e past number st = passed s c n t (opened a e.opener.0 e.writer.0 e.size) past s.parts s.groups (record { number = number; puts = λ k. refl; sets = refl }) (λ x. refl)
-    (record { note = λ b. refl; cuts = λ b. refl }) (λ b q there. (q, there, refl)) (groups-quiet s c n t (opened a e.opener.0 e.writer.0 e.size) past tt st) st
+opened-at s c n t a e past number none st = passed s c n t (opened a e.opener.0 e.writer.0 e.size e.owner) past s.parts s.groups (record { number = number; puts = λ k. refl; sets = refl }) (λ x. refl)
+    (record { address = refl; opens = none; note = λ b. refl; cuts = λ b. refl }) (λ b q there. (q, there, refl)) (groups-quiet s c n t (opened a e.opener.0 e.writer.0 e.size e.owner) past tt st) st
+
+-- whoever isn't open has enabled no block
+pub none-enabled : (m : Model) (h : History) (a : ℕ) → IsHistory m h → is_some (ends a (points m h)) ≡ false → (b : ℕ) → is_enabled_by b a (points m h) ≡ false
+none-enabled m h a is shut b = by (is_enabled_by b a (points m h)) refl where
+  by : (x : Bool) → is_enabled_by b a (points m h) ≡ x → x ≡ false
+  by true mine = absurd (never (sym shut ∙ enablers_are_open m h b a is mine))
+  by false mine = refl
 
 -- ---- lost
 
@@ -63,9 +82,12 @@ abbrev pub losing : ℕ → ℕ → ℕ → Point
 losing n t a = at n t (lost a)
 
 pub lost-at : (s : State) (c : Config) (n t : ℕ) (a : AssocNo) (past : Past) → IsNumber a.0 → StandsAt s c n (arrival n t ∷ past)
-    → StandsAt (record s { steps = suc s.steps; parts = after_loss_all a s.parts; rows = ended s.rows a.0; groups = after_loss a.0 s.groups; controls = after_deed (lost a.0) s.controls }) c (suc n) (losing n t a.0 ∷ past)
-lost-at s c n t a past number st = passed s c n t (lost a.0) past (after_loss_all a s.parts) (after_loss a.0 s.groups) (record { number = number; puts = λ k. refl; sets = refl }) (λ x. refl)
-    (record { note = λ b. refl; cuts = λ b. refl }) (got-map (lost_by a) s.parts) (loses (configured_model c) past n t s.groups (arrived (configured_model c) past n t s.groups st.groups) a.0) st
+    → StandsAt (record s { steps = suc s.steps; parts = after_loss_all a s.latest s.parts; rows = ended s.rows a.0; groups = after_loss a.0 s.groups; controls = after_deed (lost a.0) s.controls }) c (suc n) (losing n t a.0 ∷ past)
+lost-at s c n t a past number st = passed s c n t (lost a.0) past (after_loss_all a s.latest s.parts) (after_loss a.0 s.groups) (record { number = number; puts = λ k. refl; sets = refl }) (λ x. refl)
+    (record { address = refl; opens = λ b. tt; note = λ b. refl; cuts = λ b. refl }) left (loses (configured_model c) past n t s.groups (arrived (configured_model c) past n t s.groups st.groups) a.0) st
+  where
+    left : AreLeft (lost a.0) (max t (now past)) s.parts (after_loss_all a s.latest s.parts)
+    left = subst (λ m. AreLeft (lost a.0) m s.parts (after_loss_all a s.latest s.parts)) st.is_latest (got-map (lost_by a s.latest) s.parts)
 
 -- ---- why an opening or a loss is refused
 

@@ -1,6 +1,6 @@
 -- Writes of setting groups: what the bay makes of them is what the definitions have.
 use Rattle.std.proofs.Common.{◌≡◌, ◌<◌, ◌∙◌, ℕ, suc, Bool, true, false, List, [], ◌∷◌, None, Result, Ok, Err, length, refl, ap, ap₂, sym, subst, arith, unwrap_or, not, true≢false}
-use Rattle.std.specs.Prelude.{◌&&◌, ◌+◌, is_some, if◌then◌else◌, OnOk, OnErr}
+use Rattle.std.specs.Prelude.{◌&&◌, ◌+◌, max, is_some, if◌then◌else◌, OnOk, OnErr}
 use Rattle.std.specs.List.{All}
 use Rattle.std.specs.Option.{option_map_or}
 use Rattle.sv_base.specs.Same.{is_same}
@@ -21,14 +21,14 @@ use Rattle.bay_model.specs.NamedLines.{generated}
 use Rattle.bay_model.specs.Notes.{note, note_by, noted, no_reason, reasons_of, union, union_of}
 use Rattle.bay_model.specs.Outcomes.{Outcome, did, refused, outcome_by}
 use Rattle.bay_model.specs.Parameters.{bit, is_interrogation, is_purging_change, parameters_at, purges}
-use Rattle.bay_model.specs.Points.{Deed, Past, activated, copied, edited, confirmed, nothing}
+use Rattle.bay_model.specs.Points.{Deed, Past, now, activated, copied, edited, confirmed, nothing}
 use Rattle.bay_model.specs.Sets.{members}
 use Rattle.bay_model.specs.Settings.{set_to}
 use Rattle.bay_model.specs.SettingWrites.{write_attribute, write_part}
 use Rattle.bay_model.specs.Singles.{arrival}
 use Rattle.bay_model.specs.Values.{gives, value_at}
 use Rattle.object_model.specs.Fits.{is_sound}
-use Rattle.brcb_state.specs.Standing.{after_deed}
+use Rattle.brcb_state.specs.Standing.{after_deed, writers_address, OpensNoEnabler}
 use Rattle.brcb_state.specs.declared.block.Block.{Block}
 use Rattle.assoc_table.specs.Seats.{Row}
 use Rattle.report_block.specs.declared.block.ReportBlock.{ReportBlock}
@@ -67,31 +67,33 @@ use Rattle.list_laws.proofs.Truths.{and-none}
 
 -- ---- deeds of setting groups
 
--- a deed that puts nothing, and breaks and changes no block
+-- a deed that puts nothing, writes no component, opens no association, and breaks and changes no block
 pub record IsOfGroups (m : Model) (n t : ℕ) (d : Deed) (past : Past) : Type 0 where
   pub silent : IsSilent m n t d past
   pub rows : (rs : List Row) → rows_after d rs ≡ rs
   pub controls : (u : Table) → tables.after_deed d u ≡ u
-  pub block : (b front : ℕ) (k : Block) → after_deed b d front k ≡ k
+  pub address : [] ≡ writers_address d past
+  pub opens : (b : ℕ) → OpensNoEnabler b d past
+  pub block : (b front now : ℕ) (k : Block) → after_deed b d front now [] k ≡ k
   pub general : (b : ℕ) → false ≡ is_interrogation b d
   pub purge : (b : ℕ) → false ≡ purges m b d past
   pub change : (b : ℕ) → false ≡ is_purging_change m b d past
   pub cuts : (b : ℕ) → cuts m b d past ≡ false
 
 of-act : (m : Model) (n t a d g : ℕ) (past : Past) → IsOfGroups m n t (activated a d g) past
-of-act m n t a d g past = record { silent = record { number = tt; puts = λ e. refl; sets = refl }; rows = λ rs. refl; controls = λ u. refl; block = λ b front k. refl; general = λ b. refl; purge = λ b. refl; change = λ b. refl; cuts = λ b. refl }
+of-act m n t a d g past = record { silent = record { number = tt; puts = λ e. refl; sets = refl }; rows = λ rs. refl; controls = λ u. refl; address = refl; opens = λ b. tt; block = λ b front now k. refl; general = λ b. refl; purge = λ b. refl; change = λ b. refl; cuts = λ b. refl }
 
 of-edit : (m : Model) (n t a d g : ℕ) (past : Past) → IsOfGroups m n t (edited a d g) past
-of-edit m n t a d g past = record { silent = record { number = tt; puts = λ e. refl; sets = refl }; rows = λ rs. refl; controls = λ u. refl; block = λ b front k. refl; general = λ b. refl; purge = λ b. refl; change = λ b. refl; cuts = λ b. refl }
+of-edit m n t a d g past = record { silent = record { number = tt; puts = λ e. refl; sets = refl }; rows = λ rs. refl; controls = λ u. refl; address = refl; opens = λ b. tt; block = λ b front now k. refl; general = λ b. refl; purge = λ b. refl; change = λ b. refl; cuts = λ b. refl }
 
 of-confirm : (m : Model) (n t a d : ℕ) (past : Past) → IsOfGroups m n t (confirmed a d) past
-of-confirm m n t a d past = record { silent = record { number = tt; puts = λ e. refl; sets = refl }; rows = λ rs. refl; controls = λ u. refl; block = λ b front k. refl; general = λ b. refl; purge = λ b. refl; change = λ b. refl; cuts = λ b. refl }
+of-confirm m n t a d past = record { silent = record { number = tt; puts = λ e. refl; sets = refl }; rows = λ rs. refl; controls = λ u. refl; address = refl; opens = λ b. tt; block = λ b front now k. refl; general = λ b. refl; purge = λ b. refl; change = λ b. refl; cuts = λ b. refl }
 
 of-nothing : (m : Model) (n t : ℕ) (past : Past) → IsOfGroups m n t nothing past
-of-nothing m n t past = record { silent = record { number = tt; puts = λ e. refl; sets = refl }; rows = λ rs. refl; controls = λ u. refl; block = λ b front k. refl; general = λ b. refl; purge = λ b. refl; change = λ b. refl; cuts = λ b. refl }
+of-nothing m n t past = record { silent = record { number = tt; puts = λ e. refl; sets = refl }; rows = λ rs. refl; controls = λ u. refl; address = refl; opens = λ b. tt; block = λ b front now k. refl; general = λ b. refl; purge = λ b. refl; change = λ b. refl; cuts = λ b. refl }
 
 of-copy : (m : Model) (n t a x : ℕ) (v : Value) (past : Past) → IsOfGroups m n t (copied a x v) past
-of-copy m n t a x v past = record { silent = record { number = tt; puts = λ e. refl; sets = refl }; rows = λ rs. refl; controls = λ u. refl; block = λ b front k. refl; general = λ b. refl; purge = λ b. refl; change = λ b. refl; cuts = λ b. refl }
+of-copy m n t a x v past = record { silent = record { number = tt; puts = λ e. refl; sets = refl }; rows = λ rs. refl; controls = λ u. refl; address = refl; opens = λ b. tt; block = λ b front now k. refl; general = λ b. refl; purge = λ b. refl; change = λ b. refl; cuts = λ b. refl }
 
 of-confirmed : (m : Model) (n t a d : ℕ) (on : Bool) (past : Past) → IsOfGroups m n t (if on then confirmed a d else nothing) past
 of-confirmed m n t a d true past = of-confirm m n t a d past
@@ -187,10 +189,10 @@ module _ (z : State) (c : Config) (n t : ℕ) (d : Deed) (past : Past) (groups :
   groups-wrote = again (record z { groups = groups }) c n t (at n t d) past (omega arith)
       (came-quiet z c n t d past z.stored z.parts groups of.silent of.rows of.controls
       (values.stands-deed z.stored z.stored (configured_model c) t n d past here.values refl (λ x below. ap (λ o. unwrap_or o (attribute z.stored x).held.value) (sym (none x))))
-      (parts-left (configured_model c) n t d past z.parts z.parts (record { note = quiet; cuts = of.cuts }) (λ b q there. (q, there, kept b q)) here.blocks) stand here)
+      (parts-left (configured_model c) n t d past z.parts z.parts (record { address = of.address; opens = of.opens; note = quiet; cuts = of.cuts }) (λ b q there. (q, there, kept b q)) here.blocks) stand here)
     where
-      kept : (b : ℕ) (q : ReportBlock) → record q { block = after_deed b d q.ring.front q.block } ≡ q
-      kept b q = ap (λ (k : Block). record q { block = k }) (of.block b q.ring.front q.block)
+      kept : (b : ℕ) (q : ReportBlock) → record q { block = after_deed b d q.ring.front (max t (now past)) [] q.block } ≡ q
+      kept b q = ap (λ (k : Block). record q { block = k }) (of.block b q.ring.front (max t (now past)) q.block)
 
 module _ (z : State) (served : IsServable z.config) (held : AreHeld z.config z.stored) (fit : AreGrouped z.config z.groups) where
   -- ---- a component of a setting group block
@@ -259,6 +261,8 @@ module _ (z : State) (served : IsServable z.config) (held : AreHeld z.config z.s
                 general = of.general;
                 purge = of.purge;
                 change = of.change;
+                address = of.address;
+                opens = of.opens;
                 block = of.block;
                 silent = of.silent;
                 rows = of.rows;

@@ -1,7 +1,6 @@
 -- What is read stays the same at points that select controls alone.
-use Rattle.std.proofs.Common.{◌≡◌, ◌≤◌, ◌∙◌, ℕ, ◌∷◌, length, refl, ap, ap₂, arith}
+use Rattle.std.proofs.Common.{◌≡◌, ◌∙◌, ℕ, max, ◌∷◌, refl, ap, ap₂, arith}
 use Rattle.std.specs.Prelude.{Bool, true, false, if◌then◌else◌, [], Result, Ok, Err}
-use Rattle.std.specs.Int.{to_be_bytes, w64}
 use Rattle.sv_base.specs.declared.value.Value.{Value}
 use Rattle.sv_base.specs.declared.value.Value.TheVariants as kinds
 use Rattle.sv_base.specs.declared.components.Comp.{Comp}
@@ -11,15 +10,16 @@ use Rattle.sv_base.specs.declared.components.SettingComp.TheVariants.{NumOfSG, A
 use Rattle.bay_model.specs.declared.request.Target.{Target}
 use Rattle.bay_model.specs.declared.request.Target.TheVariants as targets
 use Rattle.bay_model.specs.Calls.{can_select}
-use Rattle.bay_model.specs.Components.{read_component, read_setting, time_of_newest}
+use Rattle.bay_model.specs.Components.{read_component, read_setting}
 use Rattle.bay_model.specs.Lookups.{attr_of, control_of, node_of}
 use Rattle.bay_model.specs.Model as model
 use Rattle.bay_model.specs.Model.{Model, Access, Leaf, Tree, Trees, Role, selecting}
 use Rattle.bay_model.specs.Outcomes.{deed_of, gave}
-use Rattle.bay_model.specs.Points.{Deed, nothing, selected_control, Point, Past, now}
+use Rattle.bay_model.specs.Points.{Deed, nothing, selected_control, Past, now}
 use Rattle.bay_model.specs.Reads.{read_attribute, read_leaf, read_tree, read_trees, read_role, structured, joined, outcome_of_read}
 use Rattle.bay_model.specs.Singles.{arrival, outcome_at, read_of}
-use Rattle.bay_model.proofs.Again.{selected-again}
+use Rattle.bay_model.specs.Reservations.{reservation}
+use Rattle.bay_replies.proofs.PointLaws.{component-again, lasting-again}
 use Rattle.window_core.specs.Points.{at}
 
 -- nothing came, or a control was selected
@@ -75,21 +75,6 @@ module _ (m : Model) (n t : ℕ) where
   setting-again d CnfEdit past = refl
   setting-again d LActTm past = refl
 
-  component-again : (b : ℕ) (comp : Comp) (p : Point) (past : Past) → t ≤ now (p ∷ past) → read_component m b comp (arrival n t ∷ p ∷ past) ≡ read_component m b comp (p ∷ past)
-  component-again b comps.RptID p past same = refl
-  component-again b comps.RptEna p past same = refl
-  component-again b comps.DatSet p past same = refl
-  component-again b comps.ConfRev p past same = refl
-  component-again b comps.OptFlds p past same = refl
-  component-again b comps.BufTm p past same = refl
-  component-again b comps.SqNum p past same = refl
-  component-again b comps.TrgOps p past same = refl
-  component-again b comps.IntgPd p past same = refl
-  component-again b comps.GI p past same = refl
-  component-again b comps.PurgeBuf p past same = refl
-  component-again b comps.EntryID p past same = ap (λ es. kinds.Octets (to_be_bytes w64 (length es))) (selected-again m b t n p past same)
-  component-again b comps.TimeofEntry p past same = ap (λ es. kinds.Stamp (time_of_newest es)) (selected-again m b t n p past same)
-
   component-selects : (a k b : ℕ) (comp : Comp) (past : Past) → read_component m b comp (at n t (selected_control a k) ∷ past) ≡ read_component m b comp (arrival n t ∷ past)
   component-selects a k b comps.RptID past = refl
   component-selects a k b comps.RptEna past = refl
@@ -104,16 +89,18 @@ module _ (m : Model) (n t : ℕ) where
   component-selects a k b comps.PurgeBuf past = refl
   component-selects a k b comps.EntryID past = refl
   component-selects a k b comps.TimeofEntry past = refl
+  component-selects a k b comps.ResvTms past = refl
+  component-selects a k b comps.Owner past = refl
 
   leaf-selects : (a k : ℕ) (l : Leaf) (past : Past) → read_leaf m (arrival n t ∷ at n t (selected_control a k) ∷ past) l ≡ read_leaf m (arrival n t ∷ past) l
   leaf-selects a k (model.attribute x) past = attribute-selects a k (attr_of m x).access x past
-  leaf-selects a k (model.component b comp) past = ap Ok (component-again b comp (at n t (selected_control a k)) past (omega arith) ∙ component-selects a k b comp past)
+  leaf-selects a k (model.component b comp) past = ap Ok (component-again m b t n comp (at n t (selected_control a k)) past (omega arith) (lasting-again t (max t (now past)) (reservation b past) (omega arith)) ∙ component-selects a k b comp past)
   leaf-selects a k (model.setting d part) past = ap Ok (setting-selects a k d part past)
   leaf-selects a k model.withheld past = refl
 
   leaf-again : (l : Leaf) (past : Past) → read_leaf m (arrival n t ∷ arrival n t ∷ past) l ≡ read_leaf m (arrival n t ∷ past) l
   leaf-again (model.attribute x) past = attribute-again (attr_of m x).access x past
-  leaf-again (model.component b comp) past = ap Ok (component-again b comp (arrival n t) past (omega arith))
+  leaf-again (model.component b comp) past = ap Ok (component-again m b t n comp (arrival n t) past (omega arith) (lasting-again t (max t (now past)) (reservation b past) (omega arith)))
   leaf-again (model.setting d part) past = ap Ok (setting-again d part past)
   leaf-again model.withheld past = refl
 

@@ -1,6 +1,6 @@
 -- A step of one point: the state of a bay from its arrival to what its deed makes of it.
 use Rattle.std.proofs.Common.{◌≡◌, ◌≤◌, ℕ, suc, List, [], ◌∷◌, ◌++◌, None, refl, ap, arith, ◌∙◌, sym, subst}
-use Rattle.std.specs.Prelude.{length, unwrap_or}
+use Rattle.std.specs.Prelude.{length, max, unwrap_or}
 use Rattle.sv_base.specs.declared.config.Config.{Config}
 use Rattle.bay_model.specs.Model.{Model, DataSet}
 use Rattle.bay_model.specs.Named.{configured_model}
@@ -128,7 +128,7 @@ done s c n t d past stored parts groups silent values blocks held st =
 
 -- a step whose deed leaves all values, and the entries of all blocks
 pub passed : (s : State) (c : Config) (n t : ℕ) (d : Deed) (past : Past) (parts : List ReportBlock) (groups : Grouped) → IsSilent (configured_model c) n t d past
-    → ((x : ℕ) → gives (configured_model c) x d past ≡ None) → IsApart (configured_model c) n t d past → AreLeft d s.parts parts → GroupsStand groups (configured_model c) (at n t d ∷ past) → StandsAt s c n (arrival n t ∷ past)
+    → ((x : ℕ) → gives (configured_model c) x d past ≡ None) → IsApart (configured_model c) n t d past → AreLeft d (max t (now past)) s.parts parts → GroupsStand groups (configured_model c) (at n t d ∷ past) → StandsAt s c n (arrival n t ∷ past)
     → StandsAt (record s { steps = suc s.steps; parts = parts; rows = rows_after d s.rows; groups = groups; controls = after_deed d s.controls }) c (suc n) (at n t d ∷ past)
 passed s c n t d past parts groups silent same apart left held here =
     done s c n t d past s.stored parts groups silent (values-same here.values) (parts-left (configured_model c) n t d past s.parts parts apart left here.blocks) held here
@@ -141,13 +141,13 @@ pub groups-quiet : (s : State) (c : Config) (n t : ℕ) (d : Deed) (past : Past)
 groups-quiet s c n t d past is here = settings.quiets (configured_model c) past n t d s.groups is (settings.arrived (configured_model c) past n t s.groups here.groups)
 
 -- all blocks stay as they are where the deed isn't one of theirs
-pub left-as-they-are : (parts : List ReportBlock) → AreLeft nothing parts parts
-left-as-they-are parts = λ b q there. (q, there, refl)
+pub left-as-they-are : (now : ℕ) (parts : List ReportBlock) → AreLeft nothing now parts parts
+left-as-they-are now parts = λ b q there. (q, there, refl)
 
 -- a step that nothing came of
 pub still : (s : State) (c : Config) (n t : ℕ) (past : Past) → StandsAt s c n (arrival n t ∷ past) → StandsAt (record s { steps = suc s.steps }) c (suc n) (arrival n t ∷ past)
 still s c n t past here = passed s c n t nothing past s.parts s.groups (record { number = tt; puts = λ a. refl; sets = refl }) (λ x. refl)
-    (record { note = λ b. refl; cuts = λ b. refl }) (left-as-they-are s.parts) (groups-quiet s c n t nothing past tt here) here
+    (record { address = refl; opens = λ b. tt; note = λ b. refl; cuts = λ b. refl }) (left-as-they-are (max t (now past)) s.parts) (groups-quiet s c n t nothing past tt here) here
 
 -- an accepted step, of a state that is known by an equation
 pub accepted-as : (s t u : State) (c : Config) (h : History) (turn : Turn) → StandsFor s c h → fault (configured_model c) h turn ≡ None → t ≡ u

@@ -36,11 +36,11 @@ ended-at s c n t k good past below is numbers here =
     let o = due (control_at s.controls.controls k.0).execution in
     let there : k.0 < length m.controls = omega (arith, below, ap (λ (q : Config). length q.controls) here.is_config, length-map c.controls control_defined) in
     let st = came-with s c n t d past (coming_of o k good) s.stored s.parts s.groups (waits.done-comes m n t k good past (queued s) (queues-stand s c n (arrival n t ∷ past) here) is there numbers) refl here.values
-    (parts-left m n t d past s.parts s.parts (record { note = λ b. refl; cuts = λ b. refl }) (λ b q at_b. (q, at_b, refl)) here.blocks) (groups-quiet s c n t d past tt here) here in
+    (parts-left m n t d past s.parts s.parts (record { address = refl; opens = λ b. tt; note = λ b. refl; cuts = λ b. refl }) (λ b q at_b. (q, at_b, refl)) here.blocks) (groups-quiet s c n t d past tt here) here in
     counts (after_end k good s) c n (at n t d ∷ past)
     (subst (λ (rows : List Row). StandsAt (record s { rows = rows; controls = after_deed d s.controls }) c n (at n t d ∷ past)) (rows-put o k good s.rows) st)
 
 pub blocked-at : (s : State) (c : Config) (n t k : ℕ) (flag : Bool) (past : Past) → StandsAt s c n (arrival n t ∷ past)
     → StandsAt (record s { steps = suc s.steps; controls = after_deed (blocked k flag) s.controls }) c (suc n) (at n t (blocked k flag) ∷ past)
 blocked-at s c n t k flag past here = passed s c n t (blocked k flag) past s.parts s.groups (record { number = tt; puts = λ a. refl; sets = refl }) (λ x. refl)
-    (record { note = λ b. refl; cuts = λ b. refl }) (λ b q there. (q, there, refl)) (groups-quiet s c n t (blocked k flag) past tt here) here
+    (record { address = refl; opens = λ b. tt; note = λ b. refl; cuts = λ b. refl }) (λ b q there. (q, there, refl)) (groups-quiet s c n t (blocked k flag) past tt here) here

@@ -64,7 +64,7 @@ idled : (z : State) (c : Config) (n t : ℕ) (d : Deed) (past : Past) → IsIdle
 idled z c n t nothing past is here = here
 idled z c n t (selected_control a k) past is here =
     came-of z c n t (selected_control a k) past z.stored z.parts z.groups (record { number = tt; puts = λ e. refl; sets = refl }) here.values
-    (parts-left (configured_model c) n t (selected_control a k) past z.parts z.parts (record { note = λ b. refl; cuts = λ b. refl }) (λ b q there. (q, there, refl)) here.blocks) (groups-quiet z c n t (selected_control a k) past tt here) here
+    (parts-left (configured_model c) n t (selected_control a k) past z.parts z.parts (record { address = refl; opens = λ b. tt; note = λ b. refl; cuts = λ b. refl }) (λ b q there. (q, there, refl)) here.blocks) (groups-quiet z c n t (selected_control a k) past tt here) here
 idled z c n t _ past is here = absurd is
 
 module _ (c : Config) (grouped : IsGrouped c) (a n t : ℕ) where

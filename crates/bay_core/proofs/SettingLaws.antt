@@ -42,7 +42,7 @@ use Rattle.window_core.specs.Pieces.{Piece}
 use Rattle.report_block.specs.Coming.{noting}
 use Rattle.report_block.specs.Events.{after_noting, pieces_of}
 use Rattle.report_block.specs.Standing.{Stands as BlockStands, BlocksStand, AreKeptMembers}
-use Rattle.brcb_state.specs.Standing.{after_deed}
+use Rattle.brcb_state.specs.Standing.{after_deed, writers_address, OpensNoEnabler}
 use Rattle.brcb_state.specs.declared.block.Block.{Block}
 use Rattle.assoc_table.specs.Seats.{Row}
 use Rattle.sv_base.specs.declared.value.Value.{Value}
@@ -76,7 +76,9 @@ pub record IsSetting (m : Model) (n t : ℕ) (d : Deed) (past : Past) (settings 
   pub general : (b : ℕ) → false ≡ is_interrogation b d
   pub purge : (b : ℕ) → false ≡ purges m b d past
   pub change : (b : ℕ) → false ≡ is_purging_change m b d past
-  pub block : (b front : ℕ) (k : Block) → after_deed b d front k ≡ k
+  pub address : [] ≡ writers_address d past
+  pub opens : (b : ℕ) → OpensNoEnabler b d past
+  pub block : (b front now : ℕ) (k : Block) → after_deed b d front now [] k ≡ k
   pub silent : IsSilent m n t d past
   pub rows : (rs : List Row) → rows_after d rs ≡ rs
   pub controls : (u : Table) → tables.after_deed d u ≡ u
@@ -88,7 +90,9 @@ process-sets m n t settings past = record {
   general = λ b. refl;
   purge = λ b. refl;
   change = λ b. refl;
-  block = λ b front k. refl;
+  address = refl;
+  opens = λ b. tt;
+  block = λ b front now k. refl;
   silent = record { number = tt; puts = λ a. refl; sets = refl };
   rows = λ rs. refl;
   controls = λ u. refl;
@@ -105,7 +109,9 @@ client-sets m n t a x v past = record {
   general = λ b. refl;
   purge = λ b. refl;
   change = λ b. refl;
-  block = λ b front k. refl;
+  address = refl;
+  opens = λ b. tt;
+  block = λ b front now k. refl;
   silent = record { number = tt; puts = λ e. refl; sets = refl };
   rows = λ rs. refl;
   controls = λ u. refl;
@@ -141,8 +147,10 @@ module _ (c : Config) (b n t : ℕ) (d : Deed) (settings : List Setting) (past :
   pub part-set : BlockStands (after_noting (max t (now past)) n (pieces_of stored shapes (mentions_of changes shapes part)) part) (configured_model c) b (at n t d ∷ past)
   part-set =
       let ps = pieces_of stored shapes (mentions_of changes shapes part) in
-      subst (λ x. BlockStands x (configured_model c) b (at n t d ∷ past)) (event-came b d (max t (now past)) n ps part (sets.block b part.ring.front part.block))
+      subst (λ x. BlockStands x (configured_model c) b (at n t d ∷ past)) (event-came b d (max t (now past)) n ps part (sets.block b part.ring.front (max t (now past)) part.block))
       (deed-stands (configured_model c) b t n d past part (noting ps) st (record {
+        address = sets.address;
+        opens = sets.opens b;
         note = record { are = pieces-are; readable = subst AreKeptMembers (sym (sets.is_noted b)) (note-readable c stored (at n t d ∷ past) (members (configured_model c) b past) served held values nodes-served reasons) };
         general = sets.general b;
         all = λ is. off (sets.general b ∙ is);

@@ -56,7 +56,8 @@ use Rattle.window_core.specs.Points.{at}
 use Rattle.bay_config.specs.Servable.{IsServable}
 use Rattle.bay_core.specs.Asked.{IsKept, IsWrite, AreWrites, node_numbers, set_code}
 use Rattle.bay_values.specs.Changed.{given, last_set, change_from, without_change, AreMade, AreTyped, IsTyped}
-use Rattle.bay_core.specs.Put.{AreGeneral, answer_at, general_at, written_at}
+use Rattle.assoc_table.specs.Tables.{IsNumber}
+use Rattle.bay_core.specs.Put.{AreGeneral, IsOpenAt, answer_at, general_at, written_at}
 use Rattle.bay_core.specs.Written.{named_by}
 use Rattle.object_model.specs.Fits.{is_sound}
 use Rattle.report_block.specs.declared.block.ReportBlock.{ReportBlock}
@@ -240,12 +241,12 @@ module _ (z : State) (served : IsServable z.config) (held : AreHeld z.config z.s
 
 -- ---- a component of a block
 
-pub component-write : (z u : State) (a : AssocNo) (b : ℕ) (comp : Comp) (v : Value) (part : ReportBlock) (code : Result (Unit {0}) ℕ) → slice_get z.parts b ≡ Some part → AreGeneral a b comp v part z
+pub component-write : (z u : State) (a : AssocNo) (b : ℕ) (comp : Comp) (v : Value) (part : ReportBlock) (code : Result (Unit {0}) ℕ) → IsNumber a.0 → IsOpenAt z a.0 → slice_get z.parts b ≡ Some part → AreGeneral a b comp v part z
     → code ≡ without_effect (answer_at a comp v part z) → u ≡ written_at a b comp v part z → IsWrite z u (λ m past. write_component m a.0 b comp v past) code
-component-write z u a b comp v part code there general answer is = λ c n t past here.
+component-write z u a b comp v part code number open_ there general answer is = λ c n t past here.
     let named = named_by comp v z.book in
     let d : Deed = deed_of (write_component (configured_model c) a.0 b comp v (arrival n t ∷ past)) in
-    let wrote = component-wrote z c n t b a comp v named (general_at part z) past part refl there (general c n t past here) here in
+    let wrote = component-wrote z c n t b a comp v named (general_at part z) past part number open_ refl there (general c n t past here) here in
     (answer ∙ wrote.0, again u c n t (at n t d) past (omega arith) (subst (λ w. StandsAt w c n (at n t d ∷ past)) (sym is) wrote.1))
 
 -- ---- a node

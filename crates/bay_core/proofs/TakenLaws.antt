@@ -23,7 +23,7 @@ use Rattle.bay_model.specs.Model.{Model, Parameters}
 use Rattle.bay_model.specs.Named.{configured_model}
 use Rattle.bay_model.specs.Notes.{Kept}
 use Rattle.bay_model.specs.Outputs.{output_of}
-use Rattle.bay_model.specs.Points.{Past, reported, nothing, took, terminated}
+use Rattle.bay_model.specs.Points.{Past, now, reported, nothing, took, terminated}
 use Rattle.bay_model.specs.Waiting as queue
 use Rattle.bay_model.specs.Singles.{arrival}
 use Rattle.bay_model.specs.Takes.{Given, deed_of_waiting, taken}
@@ -61,9 +61,9 @@ use Rattle.block_events.proofs.TakeLaws.{none, given, closed}
 pub reported-at : (s : State) (c : Config) (n t a b id : ℕ) (part : ReportBlock) (past : Past) → slice_get s.parts b ≡ Some part → StandsAt s c n (arrival n t ∷ past)
     → StandsAt (record s { steps = suc s.steps; parts = slice_set s.parts b (reported_by id part) }) c (suc n) (at n t (reported a b id) ∷ past)
 reported-at s c n t a b id part past there st = passed s c n t (reported a b id) past (slice_set s.parts b (reported_by id part)) s.groups
-    (record { number = tt; puts = λ k. refl; sets = refl }) (λ x. refl) (record { note = λ k. refl; cuts = λ k. refl }) left (groups-quiet s c n t (reported a b id) past tt st) st
+    (record { number = tt; puts = λ k. refl; sets = refl }) (λ x. refl) (record { address = refl; opens = λ k. tt; note = λ k. refl; cuts = λ k. refl }) left (groups-quiet s c n t (reported a b id) past tt st) st
   where
-    left : AreLeft (reported a b id) s.parts (slice_set s.parts b (reported_by id part))
+    left : AreLeft (reported a b id) (max t (now past)) s.parts (slice_set s.parts b (reported_by id part))
     left = λ k q got. elim (got-set s.parts b k (reported_by id part) q got) [
       | inl i ↦ (part, ap (slice_get s.parts) i.0 ∙ there, ap (λ u. record part { block = if u then after_report id part.block else part.block }) (ap (λ j. b == j) i.0 ∙ same-number b) ∙ sym i.1)
       | inr i ↦ (q, i.1, ap (λ u. record q { block = if u then after_report id q.block else q.block }) (other-number b k i.0))
@@ -156,10 +156,10 @@ took-at : (z : State) (c : Config) (n t a : ℕ) (past : Past) (w : queue.Waitin
     → StandsAt (record z { rows = q.rows; controls = q.table }) c n (at n t (deed_of_waiting a w) ∷ past)
 took-at z c n t a past (queue.reply output) q wait st =
     came-stand z c n t (took a) past q z.stored z.parts z.groups wait refl st.values
-    (parts-left (configured_model c) n t (took a) past z.parts z.parts (record { note = λ b. refl; cuts = λ b. refl }) (λ b q there. (q, there, refl)) st.blocks) (groups-quiet z c n t (took a) past tt st) st
+    (parts-left (configured_model c) n t (took a) past z.parts z.parts (record { address = refl; opens = λ b. tt; note = λ b. refl; cuts = λ b. refl }) (λ b q there. (q, there, refl)) st.blocks) (groups-quiet z c n t (took a) past tt st) st
 took-at z c n t a past (queue.ending k good) q wait st =
     came-stand z c n t (terminated a k) past q z.stored z.parts z.groups wait refl st.values
-    (parts-left (configured_model c) n t (terminated a k) past z.parts z.parts (record { note = λ b. refl; cuts = λ b. refl }) (λ b q there. (q, there, refl)) st.blocks) (groups-quiet z c n t (terminated a k) past tt st) st
+    (parts-left (configured_model c) n t (terminated a k) past z.parts z.parts (record { address = refl; opens = λ b. tt; note = λ b. refl; cuts = λ b. refl }) (λ b q there. (q, there, refl)) st.blocks) (groups-quiet z c n t (terminated a k) past tt st) st
 
 first-given : (m : Model) (a n t : ℕ) (past : Past) (e : model.Ends) (w : queue.Waiting) (rest : List queue.Waiting) → ends a past ≡ Some e → queue.waiting m a (arrival n t ∷ past) ≡ w ∷ rest
     → taken m a (arrival n t ∷ past) ≡ record { answer = answers.Taken (output_of m (arrival n t ∷ past) w); deed = deed_of_waiting a w }

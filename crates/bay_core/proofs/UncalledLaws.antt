@@ -19,6 +19,7 @@ use Rattle.bay_model.specs.declared.request.Service.TheVariants as services
 use Rattle.bay_model.specs.declared.request.Target.{Target}
 use Rattle.bay_model.specs.declared.request.Target.TheVariants as targets
 use Rattle.bay_model.specs.Blocks.{enabler}
+use Rattle.bay_model.specs.Reservations.{is_reserved_for_another}
 use Rattle.bay_model.specs.BlockWrites.{component_refusals, is_of_nothing, write_component}
 use Rattle.bay_model.specs.Calls.{can_select}
 use Rattle.bay_model.specs.ComponentTable.{setting_comp_kind}
@@ -70,7 +71,7 @@ quiet-attribute m a x v reported past = quiet-refused (if is_kind (attr_of m x).
 quiet-attribute m a x v active past = quiet-refused (if is_kind (attr_of m x).kind v then 3 else 7)
 
 quiet-component : (m : Model) (a b : ℕ) (comp : Comp) (v : Value) (past : Past) → IsQuiet (write_component m a b comp v past)
-quiet-component m a b comp v past = quiet-first (component_refusals (λ e. e == a) comp v (is_of_nothing m b comp v past) (enabler b past) (parameters_at m b past)) (wrote a b comp v) (record { act = refl; tests = λ enhanced. refl })
+quiet-component m a b comp v past = quiet-first (component_refusals (λ e. e == a) (is_reserved_for_another b a past) comp v (is_of_nothing m b comp v past) (enabler b past) (parameters_at m b past)) (wrote a b comp v) (record { act = refl; tests = λ enhanced. refl })
 
 quiet-part : (m : Model) (a d : ℕ) (part : SettingComp) (v : Value) (past : Past) → IsQuiet (write_part m a d part v past)
 quiet-part m a d NumOfSG v past = quiet-refused (if is_kind (setting_comp_kind NumOfSG) v then 3 else 7)

@@ -35,24 +35,24 @@ pub record IsWrittenAt (c : Config) (stored : List Stored) (book : Book) (parts 
       → IsFurnished c stored book (slice_set parts b new) u octets most
 
 module _ (c : Config) (stored : List Stored) (book : Book) (parts : List ReportBlock) (w : Watch) (octets : Filled ℕ) (most : ℕ) (old : IsFurnished c stored book parts w octets most)
-    (b : ℕ) (part new : ReportBlock) (there : slice_get parts b ≡ Some part) (a : AssocNo) (comp : Comp) (v : Value) (named : Option ℕ) (all : List Piece) (is_named : named ≡ named_by comp v book) (now step : ℕ)
-    (written : new ≡ after_writing a comp v named now step all part (write_answer a comp v named part)) where
+    (b : ℕ) (part new : ReportBlock) (there : slice_get parts b ≡ Some part) (a : AssocNo) (owner : List ℕ) (comp : Comp) (v : Value) (named : Option ℕ) (all : List Piece) (is_named : named ≡ named_by comp v book) (now step : ℕ)
+    (written : new ≡ after_writing a owner comp v named now step all part (write_answer a owner now comp v named part)) where
   -- the block has the number of the data set that its DatSet names by then
   has : new.set ≡ number_referred new.block.options.dat_set book
-  has = subst (λ (q : ReportBlock). q.set ≡ number_referred q.block.options.dat_set book) (sym written) (has-set now step a comp v named all part book (write_answer a comp v named part) (old.sets b part there) is_named refl)
+  has = subst (λ (q : ReportBlock). q.set ≡ number_referred q.block.options.dat_set book) (sym written) (has-set now step a owner comp v named all part book (write_answer a owner now comp v named part) (old.sets b part there) is_named refl)
 
   -- which is empty or names one
   named-then : IsNamed book new.block.options.dat_set
-  named-then = subst (λ (q : ReportBlock). IsNamed book q.block.options.dat_set) (sym written) (has-named now step a comp v named all part book (write_answer a comp v named part) (old.dat_sets b part there) is_named refl)
+  named-then = subst (λ (q : ReportBlock). IsNamed book q.block.options.dat_set) (sym written) (has-named now step a owner comp v named all part book (write_answer a owner now comp v named part) (old.dat_sets b part there) is_named refl)
 
   within : b < length parts
   within = slice_get_within parts b part there
 
   keeps : KeepsSet comp part.set new.set
-  keeps = subst (λ (q : ReportBlock). KeepsSet comp part.set q.set) (sym written) (keeps-set now step a comp v named all part (write_answer a comp v named part))
+  keeps = subst (λ (q : ReportBlock). KeepsSet comp part.set q.set) (sym written) (keeps-set now step a owner comp v named all part (write_answer a owner now comp v named part))
 
   rooms : new.window.members ≡ part.window.members
-  rooms = ap (λ (q : ReportBlock). q.window.members) written ∙ windows-stay now step a comp v named all part (write_answer a comp v named part)
+  rooms = ap (λ (q : ReportBlock). q.window.members) written ∙ windows-stay now step a owner comp v named all part (write_answer a owner now comp v named part)
 
   pub written-at : IsWrittenAt c stored book parts w octets most b comp new
   written-at =

@@ -87,6 +87,7 @@ impl Bay {
     ghost use Rattle.bay_core.specs.Asked.{AreMembersFit, AreWritten, IsAnswered, IsReplied, IsReplyAt, IsKept, node_numbers};
     ghost use Rattle.bay_core.specs.Came.{IsCome, put_after};
     ghost use Rattle.bay_core.specs.Commanded.{AreNoCommands, AreTestsOf, CallsNothing};
+    ghost use Rattle.bay_core.specs.Put.{IsOpenAt};
     ghost use Rattle.bay_core.specs.Turned.{IsLent};
     ghost use Rattle.bay_core.specs.Turns.{Does, IsCounted};
 
@@ -155,6 +156,7 @@ impl Bay {
         writes: &Writes,
     ) -> Result<Came, AllocError>
         requires number { IsNumber a.0 }
+        requires is_open { IsOpenAt self.old a.0 }
         requires fits { IsFitting self.old.config (services.WriteVars writes.now) }
         ensures came { IfOk result (λ x. IsCome self.old self.new moment a.0 (services.WriteVars writes.now) x) }
         ensures kept { OnOk result (IsKept self.old self.new) }
@@ -177,6 +179,8 @@ impl Bay {
         nodes: &[NodeId],
         values: &[Value],
     ) -> Result<Vec<Result<(), u8>>, AllocError>
+        requires number { IsNumber a.0 }
+        requires is_open { IsOpenAt self.old a.0 }
         requires fit { AreMembersFit self.old.config nodes.now values.now }
         requires plain { AreNoCommands self.old.config nodes.now }
         ensures written { IfOk result (λ codes. AreWritten self.old self.new moment a.0 (writes_of (node_numbers nodes.now) values.now) codes.items) }
@@ -199,7 +203,9 @@ impl Bay {
         item: &Octs,
         values: &Values,
     ) -> Result<Reply, AllocError>
-        requires { IsFitting self.old.config (services.WriteSet domain.now item.now values.now) }
+        requires number { IsNumber a.0 }
+        requires is_open { IsOpenAt self.old a.0 }
+        requires fits { IsFitting self.old.config (services.WriteSet domain.now item.now values.now) }
         ensures answered { IfOk result (λ r. IsAnswered self.old self.new moment a.0 (services.WriteSet domain.now item.now values.now) r) }
         ensures kept { OnOk result (IsKept self.old self.new) }
         ensures refused { OnErr result (self.new ≡ self.old) }
@@ -227,6 +233,7 @@ impl Bay {
         service: &Service,
     ) -> Result<Reply, AllocError>
         requires number { IsNumber a.0 }
+        requires is_open { IsOpenAt self.old a.0 }
         requires fits { IsFitting self.old.config service.now }
         requires plain { CallsNothing service.now }
         ensures answered { IfOk result (λ r. IsReplied self.old self.new moment a.0 service.now r) }
@@ -262,6 +269,7 @@ impl Bay {
         service: &Service,
     ) -> Result<Came, AllocError>
         requires number { IsNumber a.0 }
+        requires is_open { IsOpenAt self.old a.0 }
         requires fits { IsFitting self.old.config service.now }
         ensures came { IfOk result (λ x. IsCome self.old self.new moment a.0 service.now x) }
         ensures kept { OnOk result (IsKept self.old self.new) }

@@ -5,7 +5,7 @@ use assoc_table::Ends;
 use bay_histories::StepFault;
 use bay_model::Answer;
 use block_events::lose_all;
-use sv_base::{ActorNo, AssocNo, Moment};
+use sv_base::{ActorNo, AssocNo, Moment, Owner};
 
 impl Bay {
     ghost use Rattle.std.specs.Prelude.{◌≡◌, ◌<◌, ◌^◌, None};
@@ -27,18 +27,19 @@ impl Bay {
         self.associations.start(a, ends);
     }
 
-    /// An association ends, and with it what it has enabled, what it edits and what it has selected.
+    /// An association ends, and with it what it has enabled, what it edits and what it has selected; of the blocks that it has
+    /// written it is a writer no longer.
     fn end(&mut self, a: AssocNo)
         requires { IsNumber a.0 }
         ensures { self.new ≡ record self.old {
           rows = ended self.old.rows a.0;
-          parts = after_loss_all a self.old.parts;
+          parts = after_loss_all a self.old.latest self.old.parts;
           groups = after_loss a.0 self.old.groups;
           controls = after_deed (lost_deed a.0) self.old.controls;
         } }
     {
         self.associations.end(a);
-        lose_all(&mut self.parts, a);
+        lose_all(&mut self.parts, a, self.latest);
         self.groups.lost(a);
     }
 
@@ -54,7 +55,7 @@ impl Bay {
         Ok(Answer::Went)
     }
 
-    /// An actor opens an association, for which `writer` takes.
+    /// An actor opens an association from an address, for which `writer` takes.
     pub(crate) fn open_association(
         &mut self,
         moment: Moment,
@@ -62,10 +63,11 @@ impl Bay {
         a: AssocNo,
         size: u32,
         writer: ActorNo,
+        owner: Owner,
     ) -> Result<Answer, StepFault>
         requires number { IsNumber a.0 }
         requires few { self.old.steps < 2 ^ 62 }
-        ensures does { Does self.old self.new (record { moment = moment; actor = actor.0; step = steps.Open a size writer }) result }
+        ensures does { Does self.old self.new (record { moment = moment; actor = actor.0; step = steps.Open a size writer owner }) result }
         ensures counted { IsCounted self.old self.new result }
     {
         if self.associations.is_open(a) {
@@ -79,6 +81,7 @@ impl Bay {
                 opener,
                 writer,
                 size,
+                owner,
             },
         );
         self.count();

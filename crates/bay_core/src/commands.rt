@@ -28,6 +28,7 @@ impl Bay {
     ghost use Rattle.bay_queues.specs.Calling.{blame_in, enhanced_in, outcome_at};
     ghost use Rattle.bay_queues.specs.Heard.{heard_with};
     ghost use Rattle.bay_queues.specs.Queued.{IsQueued};
+    ghost use Rattle.bay_core.specs.Put.{IsOpenAt};
     ghost use Rattle.bay_core.specs.Commanded.{after_block, after_call, after_end, blame_at, blame_to, AreTestsOf, IsSingle};
     ghost use Rattle.bay_histories.specs.Turns.{KeepsLean};
     ghost use Rattle.bay_core.specs.Turns.{Does, IsCounted};
@@ -110,6 +111,7 @@ impl Bay {
         heard: &mut Heard,
     )
         requires number { IsNumber a.0 }
+        requires is_open { IsOpenAt self.old a.0 }
         requires there { node.0 < length (nodes_of self.old.config) }
         requires sound { is_sound value.now ≡ true }
         requires blame { blame ≡ blame_at self.old.config node.0 value.now }

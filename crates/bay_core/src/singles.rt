@@ -57,6 +57,7 @@ impl Bay {
     ghost use Rattle.bay_replies.specs.Given.{copies_from};
     ghost use Rattle.bay_queues.specs.Heard.{unheard};
     ghost use Rattle.bay_core.specs.Asked.{AreFit, AreMembersFit, AreWrites, IsFit, IsKept, IsWrite, node_numbers};
+    ghost use Rattle.bay_core.specs.Put.{IsOpenAt};
     ghost use Rattle.bay_core.specs.Commanded.{blame_to, AreNoCommands, AreSingles, IsNoCommand, IsSingle};
 
     /// A client writes an attribute of a line or of a control, at the moment that time has come to, and each block takes in its event. It
@@ -114,6 +115,8 @@ impl Bay {
 
     /// An association writes a node that is no command, at the moment that time has come to. It takes no memory.
     pub(crate) fn write_node(&mut self, a: AssocNo, node: NodeId, value: &Value) -> Result<(), u8>
+        requires number { IsNumber a.0 }
+        requires is_open { IsOpenAt self.old a.0 }
         requires there { node.0 < length (nodes_of self.old.config) }
         requires sound { is_sound value.now ≡ true }
         requires plain { IsNoCommand (node_of (configured_model self.old.config) node.0).role }
@@ -143,6 +146,7 @@ impl Bay {
         heard: &mut Heard,
     )
         requires number { IsNumber a.0 }
+        requires is_open { IsOpenAt self.old a.0 }
         requires fit { IsFit self.old.config target.now value.now }
         requires blame { blame ≡ blame_to self.old.config target.now value.now }
         requires room { length heard.old.codes < heard.old.room }
@@ -164,6 +168,7 @@ impl Bay {
         heard: &mut Heard,
     )
         requires number { IsNumber a.0 }
+        requires is_open { IsOpenAt self.old a.0 }
         requires fit { AreFit self.old.config writes.now }
         requires blames { blames.old.items ≡ map (λ (w : WriteValue). blame_to self.old.config w.target w.value) writes.now }
         requires heard { heard.old ≡ unheard (length writes.now) }
@@ -183,6 +188,8 @@ impl Bay {
         values: &[Value],
         codes: &mut Vec<Result<(), u8>>,
     )
+        requires number { IsNumber a.0 }
+        requires is_open { IsOpenAt self.old a.0 }
         requires fit { AreMembersFit self.old.config nodes.now values.now }
         requires plain { AreNoCommands self.old.config nodes.now }
         requires empty { codes.old.items ≡ [] }

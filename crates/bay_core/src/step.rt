@@ -35,9 +35,12 @@ impl Bay {
         ensures lean { KeepsLean step.now result }
     {
         match step {
-            Step::Open { a, size, writer } => {
-                self.open_association(moment, actor, *a, *size, *writer)
-            }
+            Step::Open {
+                a,
+                size,
+                writer,
+                owner,
+            } => self.open_association(moment, actor, *a, *size, *writer, *owner),
             Step::Write(a, b, comp, value) => self.write(moment, actor, *a, *b, *comp, value),
             Step::Take(a) => self.take(alloc, moment, actor, *a),
             Step::Lost(a) => self.lose(moment, actor, *a),

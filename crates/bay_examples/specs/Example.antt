@@ -5,7 +5,7 @@ use Rattle.bay_examples.specs.ExampleNodes.{domain, nodes, attrs_with, power}
 
 -- the data set LLN0.Events: the position, the indication and the power
 abbrev pub events : DataSet
-events = record { domain = domain; item = codes "LLN0$Events"; nodes = 18 ∷ 24 ∷ 32 ∷ [] }
+events = record { domain = domain; item = codes "LLN0$Events"; nodes = 20 ∷ 26 ∷ 34 ∷ [] }
 
 -- a bit for each digit 0 or 1
 abbrev pub bits_of : List ℕ → List Bool

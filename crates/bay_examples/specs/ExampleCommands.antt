@@ -16,13 +16,13 @@ use Rattle.bay_examples.specs.ExampleControl.{command, cancellation}
 
 -- a's SBOw, Oper and Cancel, with ctlNum and Test
 abbrev pub select_with : (a invoke number : ℕ) → Bool → Turn
-select_with a invoke number test = write_to a invoke (target 36 (codes "CSWI1$CO$Pos$SBOw")) (command number test)
+select_with a invoke number test = write_to a invoke (target 38 (codes "CSWI1$CO$Pos$SBOw")) (command number test)
 
 abbrev pub operate_with : (a invoke number : ℕ) → Bool → Turn
-operate_with a invoke number test = write_to a invoke (target 45 (codes "CSWI1$CO$Pos$Oper")) (command number test)
+operate_with a invoke number test = write_to a invoke (target 47 (codes "CSWI1$CO$Pos$Oper")) (command number test)
 
 abbrev pub cancel_with : (a invoke number : ℕ) → Bool → Turn
-cancel_with a invoke number test = write_to a invoke (target 54 (codes "CSWI1$CO$Pos$Cancel")) (cancellation number test)
+cancel_with a invoke number test = write_to a invoke (target 56 (codes "CSWI1$CO$Pos$Cancel")) (cancellation number test)
 
 abbrev pub done : Bool → Turn
 done good = turn 0 (steps.Done (record { 0 = 0 }) good)

@@ -39,7 +39,7 @@ status v q t = structure (more (leaf (attribute v)) (more (leaf (attribute q)) (
 
 -- the components of a report block, in the order of its type
 abbrev pub components : List Comp
-components = comps.RptID ∷ comps.RptEna ∷ comps.DatSet ∷ comps.ConfRev ∷ comps.OptFlds ∷ comps.BufTm ∷ comps.SqNum ∷ comps.TrgOps ∷ comps.IntgPd ∷ comps.GI ∷ comps.PurgeBuf ∷ comps.EntryID ∷ comps.TimeofEntry ∷ []
+components = comps.RptID ∷ comps.RptEna ∷ comps.DatSet ∷ comps.ConfRev ∷ comps.OptFlds ∷ comps.BufTm ∷ comps.SqNum ∷ comps.TrgOps ∷ comps.IntgPd ∷ comps.GI ∷ comps.PurgeBuf ∷ comps.EntryID ∷ comps.TimeofEntry ∷ comps.ResvTms ∷ comps.Owner ∷ []
 
 abbrev pub component_leaves : List Comp → Trees
 component_leaves [] = none
@@ -58,15 +58,15 @@ attribute_node item x = record { domain = domain; item = item; role = single (at
 abbrev pub component_node : List ℕ → Comp → Node
 component_node name k = record { domain = domain; item = codes "LLN0$BR$brcbEv01$" ++ name; role = single (component 0 k); tree = leaf (component 0 k); attrs = []; allowed = false }
 
--- the nodes of LLN0, which holds the report block; 2 is the block, and 3 to 15 are its components
+-- the nodes of LLN0, which holds the report block; 2 is the block, and 3 to 17 are its components
 abbrev pub block_nodes : List Node
 block_nodes = node (codes "LLN0") (within (within block_tree)) [] false ∷ node (codes "LLN0$BR") (within block_tree) [] false ∷ node (codes "LLN0$BR$brcbEv01") block_tree [] false
     ∷ component_node (codes "RptID") comps.RptID ∷ component_node (codes "RptEna") comps.RptEna ∷ component_node (codes "DatSet") comps.DatSet ∷ component_node (codes "ConfRev") comps.ConfRev
     ∷ component_node (codes "OptFlds") comps.OptFlds ∷ component_node (codes "BufTm") comps.BufTm ∷ component_node (codes "SqNum") comps.SqNum ∷ component_node (codes "TrgOps") comps.TrgOps
     ∷ component_node (codes "IntgPd") comps.IntgPd ∷ component_node (codes "GI") comps.GI ∷ component_node (codes "PurgeBuf") comps.PurgeBuf ∷ component_node (codes "EntryID") comps.EntryID
-    ∷ component_node (codes "TimeofEntry") comps.TimeofEntry ∷ []
+    ∷ component_node (codes "TimeofEntry") comps.TimeofEntry ∷ component_node (codes "ResvTms") comps.ResvTms ∷ component_node (codes "Owner") comps.Owner ∷ []
 
--- the nodes of the breaker position, of the indication and of the power; 18, 24 and 32 are the members of the data set
+-- the nodes of the breaker position, of the indication and of the power; 20, 26 and 34 are the members of the data set
 abbrev pub position_nodes : List Node
 position_nodes = node (codes "XCBR1") (within (within (status 0 1 2))) (0 ∷ 1 ∷ 2 ∷ []) false ∷ node (codes "XCBR1$ST") (within (status 0 1 2)) (0 ∷ 1 ∷ 2 ∷ []) true
     ∷ node (codes "XCBR1$ST$Pos") (status 0 1 2) (0 ∷ 1 ∷ 2 ∷ []) true

@@ -1,6 +1,6 @@
 -- Steps of worked histories over the example bay: its process, and clients that write its block and take.
 use Rattle.std.specs.Prelude.{ℕ, zero, suc, ◌+◌, ◌≡◌, ◌&&◌, Bool, true, false, pos, List, [], ◌∷◌, ◌++◌, reverse, is_none}
-use Rattle.std.specs.Int.{to_be_bytes, w64}
+use Rattle.std.specs.Int.{to_be_bytes, w32, w64}
 use Rattle.sv_base.specs.declared.value.Value.{Value}
 use Rattle.sv_base.specs.declared.value.Value.TheVariants as kinds
 use Rattle.bay_model.specs.declared.answer.Answer.{Answer}
@@ -22,9 +22,12 @@ turn actor step = record { moment = least_moment; actor = actor; step = step }
 abbrev pub at : ℕ → Turn → Turn
 at ms t = record t { moment = least_moment + ms }
 
--- a is opened with a greatest size of a PDU
+-- a is opened with a greatest size of a PDU, from an address; and from that of its number, in four octets
+abbrev pub open_from : List ℕ → ℕ → ℕ → Turn
+open_from owner size a = turn a (steps.Open (record { 0 = a }) size (record { 0 = a }) owner)
+
 abbrev pub open_with : ℕ → ℕ → Turn
-open_with size a = turn a (steps.Open (record { 0 = a }) size (record { 0 = a }))
+open_with size a = open_from (to_be_bytes w32 a) size a
 
 abbrev pub open_direct : ℕ → Turn
 open_direct a = open_with 65000 a
@@ -51,6 +54,10 @@ disable a = write a comps.RptEna (kinds.Bool false)
 -- EntryID n
 abbrev pub resume_at : ℕ → ℕ → Turn
 resume_at a n = write a comps.EntryID (kinds.Octets (to_be_bytes w64 n))
+
+-- ResvTms of so many seconds
+abbrev pub reserve : ℕ → ℕ → Turn
+reserve a seconds = write a comps.ResvTms (kinds.Int (pos seconds))
 
 abbrev pub purge : ℕ → Turn
 purge a = write a comps.PurgeBuf (kinds.Bool true)

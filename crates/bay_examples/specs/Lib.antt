@@ -14,6 +14,7 @@ pub mod WorkedBreaks
 pub mod WorkedBuffer
 pub mod WorkedResumes
 pub mod WorkedHolding
+pub mod WorkedReservations
 pub mod WorkedBlocks
 pub mod WorkedReads
 pub mod WorkedControls

@@ -38,7 +38,7 @@ CountedChanges = (Answered (example 200) (open_direct 1 ∷ write 1 comps.DatSet
 
 -- A structure gives its parts in order.
 abbrev pub ReadOfStructure : Type 0
-ReadOfStructure = Answered (example 200) (open_direct 1 ∷ set_position (bits_of (codes "10")) ∷ read 1 1 (target 18 (codes "XCBR1$ST$Pos")) ∷ [])
+ReadOfStructure = Answered (example 200) (open_direct 1 ∷ set_position (bits_of (codes "10")) ∷ read 1 1 (target 20 (codes "XCBR1$ST$Pos")) ∷ [])
     (take 1 ∷ [])
     (gave 1 (kinds.Struct (seen.more (seen.plain (seen.bits (true ∷ false ∷ []))) (seen.more (seen.plain (seen.bits (replicate 13 false))) (seen.more (seen.plain (seen.time 0 0 0)) seen.none)))) ∷ [])
 
@@ -46,14 +46,14 @@ ReadOfStructure = Answered (example 200) (open_direct 1 ∷ set_position (bits_o
 -- the process, and a structure, can't be written.
 abbrev pub RefusedAccess : Type 0
 RefusedAccess = Answered example_control (open_direct 1 ∷ read 1 1 (targets.Missing (names.Domain domain (codes "XCBR1$ST$Neg"))) ∷ read 1 2 (targets.Alternate (names.Domain domain (codes "XCBR1$ST$Pos")))
-    ∷ read 1 3 (target 46 (codes "CSWI1$CO$Pos$Oper$ctlVal")) ∷ read 1 4 (target 33 (codes "CSWI1")) ∷ write_to 1 5 (target 32 (codes "MMXU1$MX$TotW$mag$i")) (kinds.Int (pos 1))
-    ∷ write_to 1 6 (target 32 (codes "MMXU1$MX$TotW$mag$i")) (kinds.Bool true) ∷ write_to 1 7 (target 18 (codes "XCBR1$ST$Pos")) (kinds.Bool true) ∷ [])
+    ∷ read 1 3 (target 48 (codes "CSWI1$CO$Pos$Oper$ctlVal")) ∷ read 1 4 (target 35 (codes "CSWI1")) ∷ write_to 1 5 (target 34 (codes "MMXU1$MX$TotW$mag$i")) (kinds.Int (pos 1))
+    ∷ write_to 1 6 (target 34 (codes "MMXU1$MX$TotW$mag$i")) (kinds.Bool true) ∷ write_to 1 7 (target 20 (codes "XCBR1$ST$Pos")) (kinds.Bool true) ∷ [])
     (take 1 ∷ take 1 ∷ take 1 ∷ take 1 ∷ take 1 ∷ take 1 ∷ take 1 ∷ [])
     (gave_none 1 10 ∷ gave_none 2 9 ∷ gave_none 3 3 ∷ gave_none 4 3 ∷ wrote_none 5 3 ∷ wrote_none 6 7 ∷ wrote_none 7 3 ∷ [])
 
 -- 48 times the position, in 21 octets of Data, and four times the power of 300, in four
 abbrev pub long_read : List Target
-long_read = replicate 48 (target 18 (codes "XCBR1$ST$Pos")) ++ replicate 4 (target 32 (codes "MMXU1$MX$TotW$mag$i"))
+long_read = replicate 48 (target 20 (codes "XCBR1$ST$Pos")) ++ replicate 4 (target 34 (codes "MMXU1$MX$TotW$mag$i"))
 
 -- Values that are as long as a PDU are given; with a code more, or in an association whose PDUs are an octet shorter, they are
 -- too long for it.

@@ -32,7 +32,7 @@ EnabledByRequest = Answered (example 200) (open_direct 1 ∷ at 10 (set_power 5)
     (wrote 1 ∷ report 0 1 10 unmarked (power 5 changed ∷ []) ∷ [])
 
 abbrev pub define : Service
-define = services.Define domain (codes "LLN0$Alarms") (target 32 (codes "MMXU1$MX$TotW$mag$i") ∷ [])
+define = services.Define domain (codes "LLN0$Alarms") (target 34 (codes "MMXU1$MX$TotW$mag$i") ∷ [])
 
 abbrev pub delete : Service
 delete = services.Delete 0 (record { domain = domain; item = codes "LLN0$Alarms" } ∷ [])
@@ -48,7 +48,7 @@ DefinedSet = Answered (example 200) (open_direct 1 ∷ ask 1 1 define ∷ ask 1 
 abbrev pub NamesAndDeletions : Type 0
 NamesAndDeletions = Answered (example 200) (open_direct 1 ∷ write 1 comps.DatSet (kinds.Text []) ∷ ask 1 1 define ∷ ask 1 2 (services.Names 2 (scopes.Domain domain) (Some (codes "LLN0$Alarms"))) ∷ ask 1 3 (services.Names 2 (scopes.Domain domain) (Some (codes "LLN0$A")))
     ∷ ask 1 4 (services.Names 9 scopes.Vmd None) ∷ ask 1 5 (services.Names 9 (scopes.Domain (codes "BAY2")) None) ∷ ask 1 6 (services.Delete 0 (record { domain = domain; item = codes "LLN0$Events" } ∷ record { domain = domain; item = codes "LLN0$Alarms" } ∷ record { domain = domain; item = codes "LLN0$Alarms" } ∷ []))
-    ∷ ask 1 7 (services.Delete 1 []) ∷ ask 1 8 (services.Define domain (codes "LLN0$9") (target 32 (codes "MMXU1$MX$TotW$mag$i") ∷ [])) ∷ [])
+    ∷ ask 1 7 (services.Delete 1 []) ∷ ask 1 8 (services.Define domain (codes "LLN0$9") (target 34 (codes "MMXU1$MX$TotW$mag$i") ∷ [])) ∷ [])
     (take 1 ∷ take 1 ∷ take 1 ∷ take 1 ∷ take 1 ∷ take 1 ∷ take 1 ∷ take 1 ∷ [])
     (replied 1 replies.Defined ∷ replied 2 (replies.Names (codes "LLN0$Events" ∷ [])) ∷ replied 3 (replies.Names (codes "LLN0$Alarms" ∷ codes "LLN0$Events" ∷ [])) ∷ replied 4 (replies.Names (domain ∷ []))
     ∷ replied 5 (replies.Error 7 2) ∷ replied 6 (replies.Deleted 2 1) ∷ replied 7 (replies.Error 7 3) ∷ replied 8 (replies.Error 7 2) ∷ [])

@@ -24,7 +24,7 @@ controlled ctl_model sbo_class = record (example 200) {
 }
 
 abbrev pub read_sbo : (a invoke : ℕ) → Turn
-read_sbo a invoke = read a invoke (target 67 (codes "CSWI1$CO$Pos$SBO"))
+read_sbo a invoke = read a invoke (target 69 (codes "CSWI1$CO$Pos$SBO"))
 
 -- A read of SBO gives the reference and selects, or the empty text where another has selected the control.
 abbrev pub SelectedBySBO : Type 0

@@ -9,25 +9,25 @@ use Rattle.bay_examples.specs.ExampleRequests.{target, read, write_to, gave, gav
 use Rattle.bay_examples.specs.ExampleSettings.{example_settings}
 
 abbrev pub activate : (a invoke n : ℕ) → Turn
-activate a invoke n = write_to a invoke (target 36 (codes "LLN0$SP$SGCB$ActSG")) (kinds.Uint n)
+activate a invoke n = write_to a invoke (target 38 (codes "LLN0$SP$SGCB$ActSG")) (kinds.Uint n)
 
 abbrev pub edit : (a invoke n : ℕ) → Turn
-edit a invoke n = write_to a invoke (target 37 (codes "LLN0$SP$SGCB$EditSG")) (kinds.Uint n)
+edit a invoke n = write_to a invoke (target 39 (codes "LLN0$SP$SGCB$EditSG")) (kinds.Uint n)
 
 abbrev pub confirm : (a invoke : ℕ) → Turn
-confirm a invoke = write_to a invoke (target 38 (codes "LLN0$SP$SGCB$CnfEdit")) (kinds.Bool true)
+confirm a invoke = write_to a invoke (target 40 (codes "LLN0$SP$SGCB$CnfEdit")) (kinds.Bool true)
 
 abbrev pub read_setting : (a invoke : ℕ) → Turn
-read_setting a invoke = read a invoke (target 42 (codes "MMXU1$SG$StrVal$setMag"))
+read_setting a invoke = read a invoke (target 44 (codes "MMXU1$SG$StrVal$setMag"))
 
 abbrev pub read_edited : (a invoke : ℕ) → Turn
-read_edited a invoke = read a invoke (target 45 (codes "MMXU1$SE$StrVal$setMag"))
+read_edited a invoke = read a invoke (target 47 (codes "MMXU1$SE$StrVal$setMag"))
 
 abbrev pub write_edited : (a invoke n : ℕ) → Turn
-write_edited a invoke n = write_to a invoke (target 45 (codes "MMXU1$SE$StrVal$setMag")) (kinds.Int (pos n))
+write_edited a invoke n = write_to a invoke (target 47 (codes "MMXU1$SE$StrVal$setMag")) (kinds.Int (pos n))
 
 abbrev pub read_last : (a invoke : ℕ) → Turn
-read_last a invoke = read a invoke (target 39 (codes "LLN0$SP$SGCB$LActTm"))
+read_last a invoke = read a invoke (target 41 (codes "LLN0$SP$SGCB$LActTm"))
 
 -- Under SG the setting is that of the active group; a group that isn't there can't be activated.
 abbrev pub ActiveGroup : Type 0
@@ -63,7 +63,7 @@ LastActivation = Answered example_settings (open_direct 1 ∷ read_last 1 1 ∷ 
 
 -- CnfEdit FALSE does nothing, and EditSG 0 drops the copy.
 abbrev pub DroppedEdit : Type 0
-DroppedEdit = Answered example_settings (open_direct 1 ∷ edit 1 1 2 ∷ write_to 1 2 (target 38 (codes "LLN0$SP$SGCB$CnfEdit")) (kinds.Bool false) ∷ read_edited 1 3 ∷ edit 1 4 0 ∷ read_edited 1 5 ∷ activate 1 6 0 ∷ [])
+DroppedEdit = Answered example_settings (open_direct 1 ∷ edit 1 1 2 ∷ write_to 1 2 (target 40 (codes "LLN0$SP$SGCB$CnfEdit")) (kinds.Bool false) ∷ read_edited 1 3 ∷ edit 1 4 0 ∷ read_edited 1 5 ∷ activate 1 6 0 ∷ [])
     (take 1 ∷ take 1 ∷ take 1 ∷ take 1 ∷ take 1 ∷ take 1 ∷ [])
     (wrote 1 ∷ wrote 2 ∷ gave 3 (kinds.Int (pos 20)) ∷ wrote 4 ∷ gave_none 5 2 ∷ wrote_none 6 11 ∷ [])
 

@@ -8,7 +8,8 @@ pub use worked::{worked_names, worked_reads, worked_requests};
 
 // reports of a block's entries
 pub use worked::{
-    worked_blocks, worked_breaks, worked_buffer, worked_holding, worked_reports, worked_resumes,
+    worked_blocks, worked_breaks, worked_buffer, worked_holding, worked_reports,
+    worked_reservations, worked_resumes,
 };
 
 // controls and setting groups

@@ -7,6 +7,7 @@ ghost use Rattle.bay_examples.specs.WorkedBreaks.{IntegrityBeforeEffect, Periods
 ghost use Rattle.bay_examples.specs.WorkedBuffer.{GapMark, OversizedEntry, ExactCapacity, PurgeOfUnsent, PurgeOfSent, PurgingChanges};
 ghost use Rattle.bay_examples.specs.WorkedResumes.{ResumeAtNewest, ResumeBelowFront, RefusedEntryIDs, LossAndResume, EnabledTwice};
 ghost use Rattle.bay_examples.specs.WorkedHolding.{Holding, LossOfAnother, RefusedComponents, RefusalsInOrder};
+ghost use Rattle.bay_examples.specs.WorkedReservations.{RunsOut, Stopped, Shared, OwnersRead, ClampedLoss};
 ghost use Rattle.bay_examples.specs.WorkedBlocks.{TieOfBlocks, EarliestStep};
 ghost use Rattle.bay_examples.specs.WorkedReads.{ReadsOfNewestEntry, CountedChanges, ReadOfStructure, RefusedAccess, LongReads};
 ghost use Rattle.bay_examples.specs.WorkedControls.{RefusedOpers, ActAndTermination, NegativeTermination, TestOperate, CancelledSelection};
@@ -62,6 +63,15 @@ pub fn worked_holding()
     ensures loss_of_another { LossOfAnother }
     ensures refused_components { RefusedComponents }
     ensures refusals_in_order { RefusalsInOrder }
+{}
+
+/// Worked histories of who has reserved a block.
+pub fn worked_reservations()
+    ensures runs_out { RunsOut }
+    ensures stopped { Stopped }
+    ensures shared { Shared }
+    ensures owners_read { OwnersRead }
+    ensures clamped_loss { ClampedLoss }
 {}
 
 /// Worked histories of two blocks of one association.

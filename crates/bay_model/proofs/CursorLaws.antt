@@ -10,7 +10,9 @@ use Rattle.bay_model.specs.Model.{Model}
 use Rattle.bay_model.specs.Points.{Deed, wrote, reported, Point, Past}
 use Rattle.bay_model.specs.Retained.{front}
 use Rattle.bay_model.specs.Blocks.{enabler, enabler_after, is_held, cursor, cursor_after}
+use Rattle.bay_model.specs.Reservations.{is_reserved_for_another}
 use Rattle.bay_model.specs.Singles.{arrival}
+use Rattle.list_laws.proofs.Truths.{or-right}
 use Rattle.bay_model.specs.Answers.{History, points}
 use Rattle.bay_model.specs.CursorLaws.{is_report}
 use Rattle.bay_model.proofs.EveryPoint.{Every, every-at, OfPoints, every-point}
@@ -31,18 +33,18 @@ above x y n e = omega (arith, e)
 
 facts : (c : Model) → OfPoints c (λ p before. Fact c before p.deed)
 facts c = record {
-  of_single = λ n m past. record {
+  of_single = λ n m a past. record {
     of_nothing = tt;
-    of_wrote = λ a b comp v h. written c n m past a b comp v h;
-    of_put = λ a x v e. tt;
-    of_copied = λ a x v. tt;
-    of_activated = λ a d n. tt;
-    of_edited = λ a d n free. tt;
-    of_confirmed = λ a d holds. tt;
-    of_called = λ a k j v. tt;
-    of_selected = λ a k. tt;
+    of_wrote = λ b comp v h. written c n m past a b comp v (or-right (is_reserved_for_another b a (arrival n m ∷ past)) (is_held (λ e. e == a) comp v (enabler b past)) h);
+    of_put = λ x v e. tt;
+    of_copied = λ x v. tt;
+    of_activated = λ d n. tt;
+    of_edited = λ d n free. tt;
+    of_confirmed = λ d holds. tt;
+    of_called = λ k j v. tt;
+    of_selected = λ k. tt;
   };
-  of_opened = λ n m past a o w size. tt;
+  of_opened = λ n m past a o w size owner. tt;
   of_lost = λ n m past a. tt;
   of_valued = λ n m past s. tt;
   of_finished = λ n m past k good. tt;
@@ -50,7 +52,7 @@ facts c = record {
   of_answered = λ n m past a o ch. tt;
   of_took = λ n m past a. tt;
   of_terminated = λ n m past a k. tt;
-  of_reported = λ n m past a b i h. above (cursor c b past) (front c b (arrival n m ∷ past)) i (next-is c b (arrival n m ∷ past) i h).0;
+  of_reported = λ n m past a b i h mine. above (cursor c b past) (front c b (arrival n m ∷ past)) i (next-is c b (arrival n m ∷ past) i h).0;
   of_nothing = λ n m past. tt;
 }
 

@@ -16,18 +16,18 @@ Next c p before = IsNext c p before p.deed
 
 facts : (c : Model) → OfPoints c (Next c)
 facts c = record {
-  of_single = λ n m past. record {
+  of_single = λ n m a past. record {
     of_nothing = tt;
-    of_wrote = λ a b comp v h. tt;
-    of_put = λ a x v e. tt;
-    of_copied = λ a x v. tt;
-    of_activated = λ a d n. tt;
-    of_edited = λ a d n free. tt;
-    of_confirmed = λ a d holds. tt;
-    of_called = λ a k j v. tt;
-    of_selected = λ a k. tt;
+    of_wrote = λ b comp v h. tt;
+    of_put = λ x v e. tt;
+    of_copied = λ x v. tt;
+    of_activated = λ d n. tt;
+    of_edited = λ d n free. tt;
+    of_confirmed = λ d holds. tt;
+    of_called = λ k j v. tt;
+    of_selected = λ k. tt;
   };
-  of_opened = λ n m past a o w size. tt;
+  of_opened = λ n m past a o w size owner. tt;
   of_lost = λ n m past a. tt;
   of_valued = λ n m past s. tt;
   of_finished = λ n m past k good. tt;
@@ -35,7 +35,7 @@ facts c = record {
   of_answered = λ n m past a o ch. tt;
   of_took = λ n m past a. tt;
   of_terminated = λ n m past a k. tt;
-  of_reported = λ n m past a b i h. h;
+  of_reported = λ n m past a b i h mine. h;
   of_nothing = λ n m past. tt;
 }
 

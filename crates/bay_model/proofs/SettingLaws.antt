@@ -65,22 +65,22 @@ module _ (c : Model) (x : ℕ) (is : (attr_of c x).access ≡ model.active) wher
   bare : Holds []
   bare = rw is refl
 
-  facts : (past : Past) → OfSingles c past (IsWritable c)
-  facts past = record {
+  facts : (a : ℕ) (past : Past) → OfSingles c a past (IsWritable c)
+  facts a past = record {
     of_nothing = tt;
-    of_wrote = λ a b comp v h. tt;
-    of_put = λ a y v e. e;
-    of_copied = λ a y v. tt;
-    of_activated = λ a e n. tt;
-    of_edited = λ a e n free. tt;
-    of_confirmed = λ a e holds. tt;
-    of_called = λ a k j v. tt;
-    of_selected = λ a k. tt;
+    of_wrote = λ b comp v h. tt;
+    of_put = λ y v e. e;
+    of_copied = λ y v. tt;
+    of_activated = λ e n. tt;
+    of_edited = λ e n free. tt;
+    of_confirmed = λ e holds. tt;
+    of_called = λ k j v. tt;
+    of_selected = λ k. tt;
   }
 
   singles : (a n m : ℕ) (ss : List Single) (past : Past) → Holds past → Holds (after_singles c a n m ss past)
   singles a n m [] past h = h
-  singles a n m (s ∷ ss) past h = singles a n m ss (after_single c a n m s past) (more (deed_of (outcome_of c a s (arrival n m ∷ past))) past m n (outcome c (arrival n m ∷ past) (IsWritable c) (facts (arrival n m ∷ past)) a s) h)
+  singles a n m (s ∷ ss) past h = singles a n m ss (after_single c a n m s past) (more (deed_of (outcome_of c a s (arrival n m ∷ past))) past m n (outcome c a (arrival n m ∷ past) (IsWritable c) (facts a (arrival n m ∷ past)) s) h)
 
   report : (a : ℕ) (past : Past) (o : Option Offer) → IsWritable c (given_report c a past o).deed
   report a past None = tt
@@ -98,9 +98,9 @@ module _ (c : Model) (x : ℕ) (is : (attr_of c x).access ≡ model.active) wher
     either false = give a past (waiting c a past)
 
   step : (n : ℕ) (t : Turn) (past : Past) (s : Step) → Holds past → Holds (record { moment = t.moment; step = n; deed = deed_at c n t past s } ∷ singles_after c n t past s)
-  step n t past (steps.Open a size writer) h = more (deed_at c n t past (steps.Open a size writer)) past t.moment n tt h
+  step n t past (steps.Open a size writer owner) h = more (deed_at c n t past (steps.Open a size writer owner)) past t.moment n tt h
   step n t past (steps.Ask a r) h = more (deed_at c n t past (steps.Ask a r)) (after_singles c a.0 n t.moment (singles_of c past r.service) past) t.moment n tt (singles a.0 n t.moment (singles_of c past r.service) past h)
-  step n t past (steps.Write a b comp v) h = more (deed_at c n t past (steps.Write a b comp v)) past t.moment n (component_ c (arrival n t.moment ∷ past) (IsWritable c) (facts (arrival n t.moment ∷ past)) a.0 b.0 comp v) h
+  step n t past (steps.Write a b comp v) h = more (deed_at c n t past (steps.Write a b comp v)) past t.moment n (component_ c a.0 (arrival n t.moment ∷ past) (IsWritable c) (facts a.0 (arrival n t.moment ∷ past)) b.0 comp v) h
   step n t past (steps.Take a) h = more (deed_at c n t past (steps.Take a)) past t.moment n (take a.0 (arrival n t.moment ∷ past)) h
   step n t past (steps.Lost a) h = more (deed_at c n t past (steps.Lost a)) past t.moment n tt h
   step n t past (steps.Value sets) h = more (deed_at c n t past (steps.Value sets)) past t.moment n tt h

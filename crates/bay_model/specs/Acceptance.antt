@@ -27,7 +27,7 @@ if_open (Some e) a yours fault = if_yours (yours e) a fault
 
 -- the fault of an actor's step after past, where it has one
 abbrev pub fault_at : Model → ℕ → Past → Step → Option Fault
-fault_at c actor past (steps.Open a size writer) = if is_some (ends a.0 past) then Some (IsOpen a.0) else None
+fault_at c actor past (steps.Open a size writer owner) = if is_some (ends a.0 past) then Some (IsOpen a.0) else None
 fault_at c actor past (steps.Ask a r) = if_open (ends a.0 past) a.0 (λ e. actor == e.opener) (if nat_le 16 (waiting_replies c a.0 past) then Some (QueueFull a.0) else None)
 fault_at c actor past (steps.Write a b comp v) = if_open (ends a.0 past) a.0 (λ e. actor == e.opener) None
 fault_at c actor past (steps.Take a) = option_map_or (λ (e : Ends). if_yours (actor == e.writer) a.0 None) (ends a.0 past) None

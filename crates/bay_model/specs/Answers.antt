@@ -43,7 +43,7 @@ outcome_of_write c n moment a b comp v past = write_component c a b comp v (arri
 
 -- what came of a step at its own point, which for an Ask is that of its reply; n is its number, from 0
 abbrev pub deed_at : Model → ℕ → Turn → Past → Step → Deed
-deed_at c n t past (steps.Open a size writer) = opened a.0 t.actor writer.0 size
+deed_at c n t past (steps.Open a size writer owner) = opened a.0 t.actor writer.0 size owner
 deed_at c n t past (steps.Ask a r) = answered a.0 (output_for c n t.moment a.0 r past) (change_of c past r.service)
 deed_at c n t past (steps.Write a b comp v) = deed_of (outcome_of_write c n t.moment a.0 b.0 comp v past)
 deed_at c n t past (steps.Take a) = (taken c a.0 (arrival n t.moment ∷ past)).deed
@@ -68,7 +68,7 @@ points c [] = []
 points c (t ∷ h) = turned c (length h) t (points c h)
 
 abbrev pub answer_at : Model → ℕ → Turn → Past → Step → Answer
-answer_at c n t past (steps.Open a size writer) = answers.Opened
+answer_at c n t past (steps.Open a size writer owner) = answers.Opened
 answer_at c n t past (steps.Ask a r) = answers.Asked (acts_in (outcomes_of c n t.moment a.0 r past))
 answer_at c n t past (steps.Write a b comp v) = answers.Wrote (code_of (outcome_of_write c n t.moment a.0 b.0 comp v past))
 answer_at c n t past (steps.Take a) = (taken c a.0 (arrival n t.moment ∷ past)).answer

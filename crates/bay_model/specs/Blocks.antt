@@ -6,7 +6,7 @@ use Rattle.std.specs.Int.{from_be_bytes, w64}
 use Rattle.sv_base.specs.declared.value.Value.{Value}
 use Rattle.sv_base.specs.declared.value.Value.TheVariants as kinds
 use Rattle.sv_base.specs.declared.components.Comp.{Comp}
-use Rattle.sv_base.specs.declared.components.Comp.TheVariants.{RptEna, EntryID, GI}
+use Rattle.sv_base.specs.declared.components.Comp.TheVariants.{RptEna, EntryID, GI, ResvTms}
 use Rattle.bay_model.specs.Model.{Model}
 use Rattle.bay_model.specs.Points.{Deed, wrote, lost, reported, Past}
 use Rattle.bay_model.specs.Entries.{selected}
@@ -34,10 +34,11 @@ is_anothers mine enabler = option_map_or (λ e. not (mine e)) enabler false
 abbrev pub is_enabled_by : ℕ → ℕ → Past → Bool
 is_enabled_by b a past = is_mine (λ e. e == a) (enabler b past)
 
--- an association's write of a component is held, for who has enabled the block: RptEna where another has, GI TRUE where it
--- hasn't, GI FALSE where another has, every other component where anyone has
+-- an association's write of a component is held, for who has enabled the block: RptEna and ResvTms where another has, GI TRUE
+-- where it hasn't, GI FALSE where another has, every other component where anyone has
 abbrev pub is_held : {H : Type 0} → (H → Bool) → Comp → Value → Option H → Bool
 is_held mine RptEna v enabler = is_anothers mine enabler
+is_held mine ResvTms v enabler = is_anothers mine enabler
 is_held mine GI (kinds.Bool on) enabler = if on then not (is_mine mine enabler) else is_anothers mine enabler
 is_held mine _ v enabler = is_some enabler
 

@@ -1,7 +1,7 @@
 -- What the components of report blocks and of setting group blocks read (IEC 61850-7-2, GetBRCBValues and
 -- GetSGCBValues; what EntryID, TimeofEntry, GI, PurgeBuf and CnfEdit read is this profile's own).
-use Rattle.std.specs.Prelude.{ℕ, ◌-◌, ◌*◌, ◌/◌, ◌%◌, ◌^◌, false, List, [], ◌∷◌, length, is_some}
-use Rattle.std.specs.Option.{option_map_or}
+use Rattle.std.specs.Prelude.{ℕ, pos, ◌-◌, ◌*◌, ◌/◌, ◌%◌, ◌^◌, false, List, [], ◌∷◌, length, Option, is_some}
+use Rattle.std.specs.Option.{option_map_or, option_map}
 use Rattle.std.specs.Int.{to_be_bytes, w64}
 use Rattle.sv_base.specs.declared.value.Value.{Value}
 use Rattle.sv_base.specs.declared.value.Value.TheVariants as kinds
@@ -14,7 +14,9 @@ use Rattle.bay_model.specs.Lookups.{groups_of}
 use Rattle.bay_model.specs.Points.{Past}
 use Rattle.bay_model.specs.Parameters.{parameters_at, conf_rev}
 use Rattle.bay_model.specs.Entries.{Entry, selected}
+use Rattle.bay_model.specs.Associations.{address}
 use Rattle.bay_model.specs.Blocks.{enabler, sq_num}
+use Rattle.bay_model.specs.Reservations.{Reservation, reservation}
 use Rattle.bay_model.specs.Settings.{active, activation, Edit, edit}
 
 -- EntryTime of a moment: milliseconds of the day, and days since 1 January 1984
@@ -37,6 +39,14 @@ time_of_newest [] = no_stamp
 time_of_newest (e ∷ []) = stamp_of e.moment
 time_of_newest (e ∷ f ∷ es) = time_of_newest (f ∷ es)
 
+-- ResvTms: the seconds of the reservation, 0 where there is none
+abbrev pub seconds_of : Option Reservation → ℕ
+seconds_of reserved = option_map_or (λ (r : Reservation). r.seconds) reserved 0
+
+-- Owner: the address that a reservation is for, else the enabler's, else no octets
+abbrev pub owner_of : Option (List ℕ) → Option Reservation → List ℕ
+owner_of enablers reserved = option_map_or (λ (r : Reservation). r.owner) reserved (option_map_or (λ o. o) enablers [])
+
 -- component comp of block b
 abbrev pub read_component : Model → ℕ → Comp → Past → Value
 read_component c b comps.RptID past = kinds.Text (parameters_at c b past).rpt_id
@@ -52,6 +62,8 @@ read_component c b comps.GI past = kinds.Bool false
 read_component c b comps.PurgeBuf past = kinds.Bool false
 read_component c b comps.EntryID past = kinds.Octets (to_be_bytes w64 (length (selected c b past)))
 read_component c b comps.TimeofEntry past = kinds.Stamp (time_of_newest (selected c b past))
+read_component c b comps.ResvTms past = kinds.Int (pos (seconds_of (reservation b past)))
+read_component c b comps.Owner past = kinds.Octets (owner_of (option_map (λ e. address e past) (enabler b past)) (reservation b past))
 
 -- a component of the setting group block of domain d
 abbrev pub read_setting : Model → ℕ → SettingComp → Past → Value

@@ -22,16 +22,17 @@ pub mod Events
 pub mod Groups
 pub mod Entries
 pub mod Retained
--- from entries to reports
+-- from entries to reports, and who may write to a block
+pub mod Associations
 pub mod Blocks
+pub mod Reservations
 pub mod Reports
 -- controls
 pub mod Commands
 pub mod Controls
 pub mod Selections
 pub mod Calls
--- associations, and what waits for them
-pub mod Associations
+-- what waits for associations
 pub mod Sizes
 pub mod Waiting
 pub mod Outputs
@@ -63,4 +64,6 @@ pub mod Acceptance
 pub mod Successors
 pub mod EntryLaws
 pub mod CursorLaws
+pub mod ReservationLaw
+pub mod ReservationsAre
 pub mod SettingLaw

@@ -18,8 +18,9 @@ pub data Change : Type 0 where
 -- What came of a point; what was refused or merely read came to nothing. In the numbers, a is an association, b a
 -- report block, k a control, d a domain and x an attribute.
 pub data Deed : Type 0 where
-  -- a was opened by the actor opener, with this greatest size of a PDU; the actor writer takes for it
-  opened : (a opener writer size : ℕ) → Deed
+  -- a was opened by the actor opener, with this greatest size of a PDU, from the address owner; the actor writer takes for
+  -- it
+  opened : (a opener writer size : ℕ) (owner : List ℕ) → Deed
   -- a was released, aborted or lost
   lost : (a : ℕ) → Deed
   -- the process set these attributes, in order

@@ -41,7 +41,7 @@ put_by c a step _ before = []
 
 -- a is opened, or lost: what waits is dropped
 abbrev pub is_start : ℕ → Deed → Bool
-is_start a (opened e opener writer size) = e == a
+is_start a (opened e opener writer size owner) = e == a
 is_start a (lost e) = e == a
 is_start a _ = false
 

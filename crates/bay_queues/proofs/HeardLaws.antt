@@ -74,7 +74,7 @@ tests-told : (m : Model) (d : Deed) → tests_in (is_enhanced m) d ≡ tests_of 
 tests-told m (called a k select v) = refl
 tests-told m (called a k operate v) = refl
 tests-told m (called a k cancel v) = refl
-tests-told m (opened a o w size) = refl
+tests-told m (opened a o w size owner) = refl
 tests-told m (lost a) = refl
 tests-told m (valued settings) = refl
 tests-told m (finished k good) = refl

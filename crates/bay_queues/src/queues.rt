@@ -19,7 +19,7 @@ use bay_model::{Act, ApplError, Output};
 use control_core::{Controls, Went};
 use std::alloc::{AllocError, Global};
 use std::marker::Model;
-use sv_base::{ActorNo, AssocNo, Call, Config, CtlNo, Moment, Value};
+use sv_base::{ActorNo, AssocNo, Call, Config, CtlNo, Moment, Owner, Value};
 
 /// The associations, numbered 1 to 16, and the controls, at most 64. Contracts see a row for each association and the table of the controls.
 #[derive(Drop)]
@@ -155,6 +155,14 @@ impl Queues {
         ensures { result ≡ option_map (λ e. e.size) (row_of self.now.rows a.0).ends }
     {
         self.associations.size(a)
+    }
+
+    /// Its address; none exactly where it isn't open.
+    pub fn owner(&self, a: AssocNo) -> Option<Owner>
+        requires { IsNumber a.0 }
+        ensures { result ≡ option_map (λ e. e.owner) (row_of self.now.rows a.0).ends }
+    {
+        self.associations.owner(a)
     }
 
     /// 16 replies wait for an association.

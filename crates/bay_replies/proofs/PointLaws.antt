@@ -1,19 +1,24 @@
 -- What a request reads is the same at each of its points, and nothing comes of it.
-use Rattle.std.proofs.Common.{◌≡◌, ◌≤◌, ℕ, zero, suc, List, [], ◌∷◌, length, map, refl, ap, ap₂, ◌∙◌, arith}
-use Rattle.std.specs.Prelude.{Result, Ok, Err}
+use Rattle.std.proofs.Common.{◌≡◌, ◌≤◌, ℕ, zero, suc, max, List, [], ◌∷◌, length, map, refl, ap, ap₂, ◌∙◌, arith}
+use Rattle.std.specs.Prelude.{pos, Option, Result, Ok, Err}
+use Rattle.std.specs.Option.{option_map}
 use Rattle.std.specs.Int.{to_be_bytes, w64}
 use Rattle.sv_base.specs.declared.value.Value.{Value}
 use Rattle.sv_base.specs.declared.value.Value.TheVariants as kinds
 use Rattle.sv_base.specs.declared.components.Comp.{Comp}
 use Rattle.sv_base.specs.declared.components.Comp.TheVariants as comps
-use Rattle.bay_model.specs.Components.{read_component, time_of_newest}
+use Rattle.bay_model.specs.Associations.{address}
+use Rattle.bay_model.specs.Blocks.{enabler}
+use Rattle.bay_model.specs.Components.{owner_of, read_component, seconds_of, time_of_newest}
 use Rattle.bay_model.specs.Model as model
 use Rattle.bay_model.specs.Model.{Model, Access}
 use Rattle.bay_model.specs.Outcomes.{deed_of, result_of}
 use Rattle.bay_model.specs.Points.{Deed, nothing, Point, Past, now}
+use Rattle.bay_model.specs.Reservations.{Reservation, lasting, reservation}
 use Rattle.bay_model.specs.Reads.{read_attribute, read_node, outcome_of_read}
 use Rattle.bay_model.specs.Singles.{Single, reads, writes, fails, arrival, outcome_at, after_single, outcomes}
 use Rattle.bay_model.proofs.Again.{selected-again}
+use Rattle.brcb_state.proofs.ReservedLaws.{lasting-later}
 use Rattle.bay_replies.specs.Points.{arrivals}
 
 -- ---- attributes and components
@@ -28,26 +33,36 @@ pub attribute-same : (c : Model) (m n : ℕ) (access : Access) (x k : ℕ) (past
 attribute-same c m n access x zero past = refl
 attribute-same c m n access x (suc k) past = attribute-again c m n access x (arrivals n m k past) ∙ attribute-same c m n access x k past
 
-component-again : (c : Model) (b m n : ℕ) (comp : Comp) (q : Point) (before : Past) → m ≤ now (q ∷ before) → read_component c b comp (arrival n m ∷ q ∷ before) ≡ read_component c b comp (q ∷ before)
-component-again c b m n comps.RptID q before same = refl
-component-again c b m n comps.RptEna q before same = refl
-component-again c b m n comps.DatSet q before same = refl
-component-again c b m n comps.ConfRev q before same = refl
-component-again c b m n comps.OptFlds q before same = refl
-component-again c b m n comps.BufTm q before same = refl
-component-again c b m n comps.SqNum q before same = refl
-component-again c b m n comps.TrgOps q before same = refl
-component-again c b m n comps.IntgPd q before same = refl
-component-again c b m n comps.GI q before same = refl
-component-again c b m n comps.PurgeBuf q before same = refl
-component-again c b m n comps.EntryID q before same = ap (λ es. kinds.Octets (to_be_bytes w64 (length es))) (selected-again c b m n q before same)
-component-again c b m n comps.TimeofEntry q before same = ap (λ es. kinds.Stamp (time_of_newest es)) (selected-again c b m n q before same)
+-- what is left of a reservation at a moment is left at that moment again
+pub lasting-again : (m t : ℕ) (x : Option Reservation) → m ≤ t → lasting (max m t) (lasting t x) ≡ lasting t x
+lasting-again m t x early =
+    let is : max m t ≡ t = omega (arith, early) in
+    lasting-later t (max m t) x (omega arith) ∙ ap (λ k. lasting k x) is
+
+-- a further arrival reads the same, where it leaves the reservation
+pub component-again : (c : Model) (b m n : ℕ) (comp : Comp) (q : Point) (before : Past) → m ≤ now (q ∷ before) → reservation b (arrival n m ∷ q ∷ before) ≡ reservation b (q ∷ before)
+    → read_component c b comp (arrival n m ∷ q ∷ before) ≡ read_component c b comp (q ∷ before)
+component-again c b m n comps.RptID q before same left = refl
+component-again c b m n comps.RptEna q before same left = refl
+component-again c b m n comps.DatSet q before same left = refl
+component-again c b m n comps.ConfRev q before same left = refl
+component-again c b m n comps.OptFlds q before same left = refl
+component-again c b m n comps.BufTm q before same left = refl
+component-again c b m n comps.SqNum q before same left = refl
+component-again c b m n comps.TrgOps q before same left = refl
+component-again c b m n comps.IntgPd q before same left = refl
+component-again c b m n comps.GI q before same left = refl
+component-again c b m n comps.PurgeBuf q before same left = refl
+component-again c b m n comps.EntryID q before same left = ap (λ es. kinds.Octets (to_be_bytes w64 (length es))) (selected-again c b m n q before same)
+component-again c b m n comps.TimeofEntry q before same left = ap (λ es. kinds.Stamp (time_of_newest es)) (selected-again c b m n q before same)
+component-again c b m n comps.ResvTms q before same left = ap (λ r. kinds.Int (pos (seconds_of r))) left
+component-again c b m n comps.Owner q before same left = ap (λ r. kinds.Octets (owner_of (option_map (λ e. address e (q ∷ before)) (enabler b (q ∷ before))) r)) left
 
 pub component-same : (c : Model) (b m n : ℕ) (comp : Comp) (k : ℕ) (past : Past) → read_component c b comp (arrivals n m (suc k) past) ≡ read_component c b comp (arrival n m ∷ past)
 component-same c b m n comp zero past = refl
 component-same c b m n comp (suc k) past =
     let same : m ≤ now (arrival n m ∷ arrivals n m k past) = omega arith in
-    component-again c b m n comp (arrival n m) (arrivals n m k past) same ∙ component-same c b m n comp k past
+    component-again c b m n comp (arrival n m) (arrivals n m k past) same (lasting-again m (now (arrival n m ∷ arrivals n m k past)) (reservation b (arrivals n m k past)) same) ∙ component-same c b m n comp k past
 
 -- ---- single reads
 

@@ -8,7 +8,7 @@ use assoc_table::{Assocs, Ends, Waiting};
 use bay_model::{ApplErrors, Output, Reply};
 use std::alloc::{AllocError, Global};
 use std::test::*;
-use sv_base::{ActorNo, AssocNo};
+use sv_base::{ActorNo, AssocNo, Owner};
 
 fn reply(alloc: Global, invoke: u32) -> Waiting
     ensures { (ws : List WaitingSeen) → IsNew result ws }
@@ -22,16 +22,27 @@ fn reply(alloc: Global, invoke: u32) -> Waiting
 
 const A: AssocNo = AssocNo(16);
 
-const ENDS: Ends = Ends {
-    opener: ActorNo(3),
-    writer: ActorNo(4),
-    size: 65000,
-};
+fn ends() -> Ends {
+    Ends {
+        opener: ActorNo(3),
+        writer: ActorNo(4),
+        size: 65000,
+        owner: Owner::of(AssocNo(5)),
+    }
+}
+
+fn has_address(table: &Assocs) -> bool {
+    match table.owner(A) {
+        Some(owner) => owner.as_slice() == [0, 0, 0, 5].as_slice(),
+        None => false,
+    }
+}
 
 fn is_open_with_its_ends(table: &Assocs) -> bool {
     table.opener(A) == Some(ActorNo(3))
         && table.writer(A) == Some(ActorNo(4))
         && table.size(A) == Some(65000)
+        && has_address(table)
 }
 
 /// Whether a reply can be put, is there, and is given once.
@@ -45,11 +56,11 @@ fn waits(alloc: Global, table: &mut Assocs) -> bool {
 
 /// Whether an association that is opened has its ends, and a reply waits for it.
 fn opens(alloc: Global, table: &mut Assocs) -> bool {
-    if table.is_open(A) {
+    if table.is_open(A) || table.owner(A).is_some() {
         return false;
     }
     table.end(A);
-    table.start(A, ENDS);
+    table.start(A, ends());
     is_open_with_its_ends(table) && waits(alloc, table)
 }
 

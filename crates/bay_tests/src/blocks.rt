@@ -1,10 +1,12 @@
 //! What writes of a report block's components are answered, and which report is next.
 
+ghost use Rattle.std.specs.Prelude.{◌≤◌};
+
 use crate::pieces::octs;
 use bay_model::Comp;
 use brcb_state::{Block, Effect, Next, Retained};
 use std::alloc::{AllocError, Global};
-use sv_base::{AssocNo, Bits, BlockDef, Moment, Stamp, Value};
+use sv_base::{AssocNo, Bits, BlockDef, Moment, Owner, Stamp, Value};
 
 const ONE: AssocNo = AssocNo(1);
 
@@ -47,9 +49,12 @@ fn next(id: u64, ovfl: bool, sq: u16) -> Option<Next> {
 enum Given {
     Bool(bool),
     Uint(u64),
+    Int(i64),
     Text(&'static [u8]),
     /// The eight octets of a number.
     Number(u64),
+    /// No octets.
+    None,
     Stamp(Stamp),
 }
 
@@ -57,14 +62,26 @@ fn value(alloc: Global, given: Given) -> Result<Value, AllocError> {
     match given {
         Given::Bool(is_true) => Ok(Value::Bool(is_true)),
         Given::Uint(number) => Ok(Value::Uint(number)),
+        Given::Int(number) => Ok(Value::Int(number)),
         Given::Text(text) => Ok(Value::Text(octs(alloc, text)?)),
         Given::Number(number) => Ok(Value::Octets(octs(alloc, &number.to_be_bytes())?)),
+        Given::None => Ok(Value::Octets(octs(alloc, b"")?)),
         Given::Stamp(stamp) => Ok(Value::Stamp(stamp)),
     }
 }
 
 /// A write, and what it is to be answered.
 type Trial = (AssocNo, Comp, Given, Result<Effect, u8>);
+
+/// The association of a trial, by its number.
+fn writer(a: AssocNo) -> AssocNo
+    ensures { (1 ≤ result.0) × (result.0 ≤ 64) }
+{
+    if a.0 == 2 {
+        return TWO;
+    }
+    ONE
+}
 
 /// What a write is answered, with these entries.
 fn answer(
@@ -74,7 +91,17 @@ fn answer(
     trial: &Trial,
 ) -> Result<Result<Effect, u8>, AllocError> {
     let (a, comp, given, _) = *trial;
-    Ok(block.write(a, comp, &value(alloc, given)?, kept, false))
+    let a = writer(a);
+    let owner = Owner::of(a);
+    Ok(block.write(
+        a,
+        &owner,
+        Moment::first(),
+        comp,
+        &value(alloc, given)?,
+        kept,
+        false,
+    ))
 }
 
 /// Makes the writes in order, with these entries; gives the place of the first that is answered otherwise.
@@ -176,7 +203,7 @@ fn an_enabled_block_is_held(alloc: Global) -> Result<bool, AllocError> {
     let mut block = block(alloc)?;
     let held = first_wrong(alloc, &mut block, kept(0, 3), &HELD)?;
     block.sent(1);
-    block.lost(ONE);
+    block.lost(ONE, Moment::first());
     let resumed = first_wrong(alloc, &mut block, kept(0, 3), &RESUMED)?;
     Ok((held, resumed) == (None, None) && are_sent(block))
 }
@@ -220,10 +247,12 @@ type Reading = (Comp, Option<u64>, Given);
 
 const STAMP: Stamp = Stamp { ms: 10, days: 0 };
 
-const READINGS: [Reading; 3] = [
+const READINGS: [Reading; 5] = [
     (Comp::DatSet, None, Given::Text(b"BAY1/LLN0$Events")),
     (Comp::EntryID, None, Given::Number(9)),
     (Comp::TimeofEntry, Some(441763200010), Given::Stamp(STAMP)),
+    (Comp::ResvTms, None, Given::Int(0)),
+    (Comp::Owner, None, Given::None),
 ];
 
 fn is_given(value: &Value, given: Given) -> bool {
@@ -231,6 +260,8 @@ fn is_given(value: &Value, given: Given) -> bool {
         (Value::Text(text), Given::Text(wanted)) => text.as_slice() == wanted,
         (Value::Octets(id), Given::Number(number)) => id.as_slice()
             == number.to_be_bytes().as_slice(),
+        (Value::Octets(octets), Given::None) => octets.as_slice().is_empty(),
+        (Value::Int(number), Given::Int(wanted)) => *number == wanted,
         (Value::Stamp(stamp), Given::Stamp(wanted)) => *stamp == wanted,
         _ => false,
     }
@@ -240,7 +271,8 @@ fn is_given(value: &Value, given: Given) -> bool {
 fn reads(alloc: Global, reading: &Reading) -> Result<bool, AllocError> {
     let (comp, ms, wanted) = *reading;
     let block = block(alloc)?;
-    let value = block.read(alloc, comp, kept(3, 9), ms.and_then(Moment::new))?;
+    let newest = ms.and_then(Moment::new);
+    let value = block.read(alloc, comp, kept(3, 9), newest, Moment::first())?;
     Ok(is_named(&block) && is_given(&value, wanted))
 }
 

@@ -5,7 +5,7 @@ use std::test::Fail;
 use sv_base::TypeOf;
 
 /// The names of a block's components in their order (IEC 61850-7-2, BRCB).
-const BLOCK: [&str; 13] = [
+const BLOCK: [&str; 15] = [
     "RptID",
     "RptEna",
     "DatSet",
@@ -19,6 +19,8 @@ const BLOCK: [&str; 13] = [
     "PurgeBuf",
     "EntryID",
     "TimeofEntry",
+    "ResvTms",
+    "Owner",
 ];
 
 /// The names of a setting group block's components in their order (IEC 61850-7-2, SGCB).
@@ -67,6 +69,8 @@ fn other_names_are_none() -> bool {
 fn kinds_are_right() -> bool {
     matches!(Comp::EntryID.kind(), TypeOf::EntryId)
         && matches!(Comp::SqNum.kind(), TypeOf::Uint(16))
+        && matches!(Comp::ResvTms.kind(), TypeOf::Int(16))
+        && matches!(Comp::Owner.kind(), TypeOf::Octets(64))
         && matches!(SettingComp::LActTm.kind(), TypeOf::Time)
 }
 

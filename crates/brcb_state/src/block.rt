@@ -5,10 +5,18 @@ ghost use Rattle.bay_model.specs.Configured.{block_defined};
 ghost use Rattle.bay_model.specs.Parameters.{bit as bit_of};
 
 use crate::options::Options;
+use crate::reservation::Reserved;
 use crate::told::{Next, Retained};
 use bay_model::Trg;
 use std::alloc::{AllocError, Global};
-use sv_base::{AssocNo, BlockDef, Octs};
+use sv_base::{AssocNo, BlockDef, Moment, Octs, Owner};
+
+/// An association that has enabled a block, with its address.
+#[derive(Clone, Copy)]
+pub struct Holder {
+    pub by: AssocNo,
+    pub owner: Owner,
+}
 
 /// A buffered report control block, without its entries.
 #[derive(Drop)]
@@ -18,7 +26,9 @@ pub struct Block {
     /// ConfRev.
     pub(crate) revision: u32,
     /// The association that has enabled it.
-    pub(crate) enabler: Option<AssocNo>,
+    pub(crate) enabler: Option<Holder>,
+    /// The reservation by the last accepted ResvTms, which may have run out since.
+    pub(crate) reservation: Option<Reserved>,
     /// The number of the entry that was reported last, or that a client set.
     pub(crate) cursor: u64,
     /// How many reports there were since it was enabled, modulo 65536.
@@ -46,7 +56,7 @@ fn reference_of(alloc: Global, def: &BlockDef) -> Result<Octs, AllocError>
 }
 
 impl Block {
-    ghost use Rattle.std.specs.Prelude.{◌≡◌, length, IfOk};
+    ghost use Rattle.std.specs.Prelude.{◌≡◌, ◌≤◌, length, IfOk};
     ghost use Rattle.bay_model.specs.Reports.{report_id};
     ghost use Rattle.bay_model.specs.Configured.{block_defined};
     ghost use Rattle.brcb_state.specs.Changes.{configured, is_by, is_by_another, next_to, after_report, after_loss};
@@ -63,6 +73,7 @@ impl Block {
             options: Options::new(alloc, def)?,
             revision: def.conf_rev,
             enabler: None,
+            reservation: None,
             cursor: 0,
             count: 0,
         })
@@ -72,8 +83,8 @@ impl Block {
     pub(crate) fn is_enabled_by(&self, a: AssocNo) -> bool
         ensures { result ≡ is_by a self.now.enabler }
     {
-        match self.enabler {
-            Some(enabler) => enabler.0 == a.0,
+        match &self.enabler {
+            Some(enabler) => enabler.by.0 == a.0,
             None => false,
         }
     }
@@ -82,8 +93,8 @@ impl Block {
     pub(crate) fn is_enabled_by_another(&self, a: AssocNo) -> bool
         ensures { result ≡ is_by_another a self.now.enabler }
     {
-        match self.enabler {
-            Some(enabler) => enabler.0 != a.0,
+        match &self.enabler {
+            Some(enabler) => enabler.by.0 != a.0,
             None => false,
         }
     }
@@ -112,12 +123,16 @@ impl Block {
         self.count = self.count.wrapping_add(1);
     }
 
-    /// The association was lost: what it has enabled it enables no longer.
-    pub fn lost(&mut self, a: AssocNo)
-        ensures { self.new ≡ after_loss a self.old }
+    /// The association was lost: what it has enabled it enables no longer, and a reservation that it alone held is loose.
+    pub fn lost(&mut self, a: AssocNo, now: Moment)
+        requires { (1 ≤ a.0) × (a.0 ≤ 64) }
+        ensures { self.new ≡ after_loss a now self.old }
     {
         if self.is_enabled_by(a) {
             self.enabler = None;
+        }
+        if let Some(reserved) = &mut self.reservation {
+            reserved.lost(a, now);
         }
     }
 

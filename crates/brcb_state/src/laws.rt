@@ -7,7 +7,8 @@ ghost use Rattle.sv_base.specs.declared.value.Value.{Value};
 ghost use Rattle.sv_base.specs.declared.components.Comp.{Comp};
 ghost use Rattle.bay_model.specs.Model.{Model};
 ghost use Rattle.bay_model.specs.Lookups.{block_of};
-ghost use Rattle.bay_model.specs.Points.{Point, Past, wrote};
+ghost use Rattle.bay_model.specs.Points.{Point, Past, wrote, now};
+ghost use Rattle.bay_model.specs.Associations.{address};
 ghost use Rattle.bay_model.specs.Entries.{selected};
 ghost use Rattle.bay_model.specs.Retained.{front};
 ghost use Rattle.bay_model.specs.Components.{read_component};
@@ -18,18 +19,21 @@ ghost use Rattle.bay_model.specs.Blocks.{next, is_enabled_by, is_overflown, sq_n
 ghost use Rattle.brcb_state.specs.declared.block.Block.{Block};
 ghost use Rattle.brcb_state.specs.declared.told.Next.{Next};
 ghost use Rattle.brcb_state.specs.Changes.{configured, effect_of, written, next_to};
-ghost use Rattle.brcb_state.specs.Refusals.{answer_to, names_nothing};
-ghost use Rattle.brcb_state.specs.Standing.{Stands, kept_at, is_known, after_deed, outcome_of, newest_of, Tells};
+ghost use Rattle.brcb_state.specs.Refusals.{answer_to, names_nothing, is_foreign};
+ghost use Rattle.brcb_state.specs.Standing.{Stands, OpensNoEnabler, writers_address, kept_at, is_known, after_deed, outcome_of, newest_of, Tells};
 
-/// A block that is opened as it is configured stands for the empty past. Where it stands for what was before a point, then
-/// after what came of the point it stands for the past up to that point. An accepted write takes the front at its arrival.
+/// A block that is opened as it is configured stands for the empty past. Where it stands for a past, it stands for the arrival
+/// of the next point as it is; from there, after what came of the point, for the past up to that point, unless the point opens
+/// the association that has enabled it. An accepted write takes the front at its arrival.
 pub fn blocks_stand()
     ensures opened { (c : Model) (b : ℕ) → Stands (configured (block_of c b)) c b [] }
+    ensures arrival { (c : Model) (b m n : ℕ) (before : Past) (s : Block) → Stands s c b before → Stands s c b (arrival n m ∷ before) }
     ensures point { (c : Model) (b : ℕ) (p : Point) (before : Past) (s : Block)
-        → Stands s c b before → Stands (after_deed b p.deed (front c b (p ∷ before)) s) c b (p ∷ before) }
+        → OpensNoEnabler b p.deed before → Stands s c b (arrival p.step p.moment ∷ before)
+        → Stands (after_deed b p.deed (front c b (p ∷ before)) (now (p ∷ before)) (writers_address p.deed before) s) c b (p ∷ before) }
     ensures accepted { (c : Model) (a : AssocNo) (b : ℕ) (comp : Comp) (v : Value) (step moment : ℕ) (before : Past) (s : Block)
-        → Stands s c b before
-        → Stands (written a comp v (front c b (arrival step moment ∷ before)) s) c b
+        → Stands s c b (arrival step moment ∷ before)
+        → Stands (written a (address a.0 before) (now (arrival step moment ∷ before)) comp v (front c b (arrival step moment ∷ before)) s) c b
         (record { moment = moment; step = step; deed = wrote a.0 b comp v } ∷ before) }
 {}
 
@@ -37,7 +41,7 @@ pub fn blocks_stand()
 pub fn writes_are_answered()
     ensures { (c : Model) (a : AssocNo) (b : ℕ) (comp : Comp) (v : Value) (past : Past) (s : Block)
         → Stands s c b past
-        → outcome_of (wrote a.0 b comp v) (answer_to a comp v (names_nothing (kept_at c b past) (is_known c past v) comp v) s)
+        → outcome_of (wrote a.0 b comp v) (answer_to a (is_foreign (address a.0 past) (now past) s) comp v (names_nothing (kept_at c b past) (is_known c past v) comp v) s)
         ≡ write_component c a.0 b comp v past }
 {}
 
@@ -53,12 +57,12 @@ pub fn next_reports_are_told()
 /// A component reads as it is where the block stands.
 pub fn components_are_read()
     ensures { (c : Model) (b : ℕ) (comp : Comp) (past : Past) (s : Block)
-        → Stands s c b past → read_of comp (kept_at c b past) (newest_of (selected c b past)) s ≡ read_component c b comp past }
+        → Stands s c b past → read_of comp (kept_at c b past) (newest_of (selected c b past)) (now past) s ≡ read_component c b comp past }
 {}
 
 /// An accepted write purges, is a purging change, and is a general interrogation exactly where its effect says so; it
 /// enables and disables the block likewise.
 pub fn effects_are_told()
     ensures { (c : Model) (a : AssocNo) (b : ℕ) (comp : Comp) (v : Value) (moment step : ℕ) (before : Past) (s : Block)
-        → Stands s c b before → Tells (effect_of comp v s) c b (record { moment = moment; step = step; deed = wrote a.0 b comp v }) before }
+        → Stands s c b (arrival step moment ∷ before) → Tells (effect_of comp v s) c b (record { moment = moment; step = step; deed = wrote a.0 b comp v }) before }
 {}

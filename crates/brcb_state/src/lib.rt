@@ -7,7 +7,9 @@ mod laws;
 mod option_writes;
 mod options;
 mod reads;
+mod reservation;
 mod told;
+mod writers;
 mod writes;
 
 // a block, and what it is told of its entries

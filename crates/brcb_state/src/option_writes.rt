@@ -22,21 +22,21 @@ fn purging(differs: bool) -> Effect
 
 impl Block {
     ghost use Rattle.std.specs.Prelude.{◌≡◌, ◌==◌, ◌&&◌, ◌||◌, ◌^◌, ◌<◌, not, nat_lt, nat_le, length, ℕ, Bool, false, is_none, is_some, Result, Ok};
-    ghost use Rattle.std.specs.Prelude.{Err, OnOk, OnErr, if◌then◌else◌};
+    ghost use Rattle.std.specs.Prelude.{[], Err, OnOk, OnErr, if◌then◌else◌};
     ghost use Rattle.sv_base.specs.declared.value.Value.TheVariants as kinds;
     ghost use Rattle.sv_base.specs.declared.components.Comp.TheVariants as comps;
     ghost use Rattle.bay_model.specs.Parameters.{next_revision};
     ghost use Rattle.brcb_state.specs.declared.told.Effect.TheVariants as effects;
-    ghost use Rattle.brcb_state.specs.Changes.{written, effect_of};
+    ghost use Rattle.brcb_state.specs.Changes.{attributes_written, effect_of};
     ghost use Rattle.bay_model.specs.BlockWrites.{names_nothing};
     ghost use Rattle.brcb_state.specs.Refusals.{answer_to, anyone};
 
-    fn set_rpt_id(&mut self, text: &[u8]) -> Result<Effect, u8>
-        ensures answer { result ≡ answer_to anyone comps.RptID (kinds.Text text.now) false self.old }
-        ensures written { OnOk result (self.new ≡ written anyone comps.RptID (kinds.Text text.now) 0 self.old) }
+    fn set_rpt_id(&mut self, foreign: bool, text: &[u8]) -> Result<Effect, u8>
+        ensures answer { result ≡ answer_to anyone foreign comps.RptID (kinds.Text text.now) false self.old }
+        ensures written { OnOk result (self.new ≡ attributes_written anyone [] comps.RptID (kinds.Text text.now) 0 self.old) }
         ensures unchanged { OnErr result (self.new ≡ self.old) }
     {
-        if self.enabler.is_some() {
+        if foreign || self.enabler.is_some() {
             return Err(HELD);
         }
         if text.len() > MOST {
@@ -46,13 +46,13 @@ impl Block {
         Ok(purging(differs))
     }
 
-    pub(crate) fn write_rpt_id(&mut self, value: &Value) -> Result<Effect, u8>
-        ensures answer { result ≡ answer_to anyone comps.RptID value.now false self.old }
-        ensures written { OnOk result (self.new ≡ written anyone comps.RptID value.now 0 self.old) }
+    pub(crate) fn write_rpt_id(&mut self, foreign: bool, value: &Value) -> Result<Effect, u8>
+        ensures answer { result ≡ answer_to anyone foreign comps.RptID value.now false self.old }
+        ensures written { OnOk result (self.new ≡ attributes_written anyone [] comps.RptID value.now 0 self.old) }
         ensures unchanged { OnErr result (self.new ≡ self.old) }
     {
         match value {
-            Value::Text(text) => self.set_rpt_id(text.as_slice()),
+            Value::Text(text) => self.set_rpt_id(foreign, text.as_slice()),
             _ => Err(MISTYPED),
         }
     }
@@ -70,12 +70,12 @@ impl Block {
         }
     }
 
-    fn set_dat_set(&mut self, text: &[u8], known: bool) -> Result<Effect, u8>
-        ensures answer { result ≡ answer_to anyone comps.DatSet (kinds.Text text.now) (names_nothing 0 0 known comps.DatSet (kinds.Text text.now)) self.old }
-        ensures written { OnOk result (self.new ≡ written anyone comps.DatSet (kinds.Text text.now) 0 self.old) }
+    fn set_dat_set(&mut self, foreign: bool, text: &[u8], known: bool) -> Result<Effect, u8>
+        ensures answer { result ≡ answer_to anyone foreign comps.DatSet (kinds.Text text.now) (names_nothing 0 0 known comps.DatSet (kinds.Text text.now)) self.old }
+        ensures written { OnOk result (self.new ≡ attributes_written anyone [] comps.DatSet (kinds.Text text.now) 0 self.old) }
         ensures unchanged { OnErr result (self.new ≡ self.old) }
     {
-        if self.enabler.is_some() {
+        if foreign || self.enabler.is_some() {
             return Err(HELD);
         }
         if text.len() > MOST || !(is_empty(text) || known) {
@@ -86,77 +86,82 @@ impl Block {
         Ok(purging(differs))
     }
 
-    pub(crate) fn write_dat_set(&mut self, value: &Value, known: bool) -> Result<Effect, u8>
-        ensures answer { result ≡ answer_to anyone comps.DatSet value.now (names_nothing 0 0 known comps.DatSet value.now) self.old }
-        ensures written { OnOk result (self.new ≡ written anyone comps.DatSet value.now 0 self.old) }
+    pub(crate) fn write_dat_set(
+        &mut self,
+        foreign: bool,
+        value: &Value,
+        known: bool,
+    ) -> Result<Effect, u8>
+        ensures answer { result ≡ answer_to anyone foreign comps.DatSet value.now (names_nothing 0 0 known comps.DatSet value.now) self.old }
+        ensures written { OnOk result (self.new ≡ attributes_written anyone [] comps.DatSet value.now 0 self.old) }
         ensures unchanged { OnErr result (self.new ≡ self.old) }
     {
         match value {
-            Value::Text(text) => self.set_dat_set(text.as_slice(), known),
+            Value::Text(text) => self.set_dat_set(foreign, text.as_slice(), known),
             _ => Err(MISTYPED),
         }
     }
 
-    /// Takes bits of this number, for a block that nobody has enabled.
-    fn take_bits(&self, bits: &[bool], count: usize) -> Result<(), u8>
-        ensures { result ≡ (if not (length bits.now == count) then Err 7 else if is_some self.now.enabler then Err 2 else Ok tt) }
+    /// Takes bits of this number, for a block that isn't held.
+    fn take_bits(&self, foreign: bool, bits: &[bool], count: usize) -> Result<(), u8>
+        ensures { result ≡ (if not (length bits.now == count) then Err 7 else if foreign || is_some self.now.enabler then Err 2 else Ok tt) }
     {
         if bits.len() != count {
             return Err(MISTYPED);
         }
-        if self.enabler.is_some() {
+        if foreign || self.enabler.is_some() {
             return Err(HELD);
         }
         Ok(())
     }
 
-    fn set_opt_flds(&mut self, bits: &[bool]) -> Result<Effect, u8>
-        ensures answer { result ≡ answer_to anyone comps.OptFlds (kinds.Bits bits.now) false self.old }
-        ensures written { OnOk result (self.new ≡ written anyone comps.OptFlds (kinds.Bits bits.now) 0 self.old) }
+    fn set_opt_flds(&mut self, foreign: bool, bits: &[bool]) -> Result<Effect, u8>
+        ensures answer { result ≡ answer_to anyone foreign comps.OptFlds (kinds.Bits bits.now) false self.old }
+        ensures written { OnOk result (self.new ≡ attributes_written anyone [] comps.OptFlds (kinds.Bits bits.now) 0 self.old) }
         ensures unchanged { OnErr result (self.new ≡ self.old) }
     {
-        self.take_bits(bits, 10)?;
+        self.take_bits(foreign, bits, 10)?;
         self.options.set_opt_flds(bits);
         Ok(Effect::Nothing)
     }
 
-    pub(crate) fn write_opt_flds(&mut self, value: &Value) -> Result<Effect, u8>
-        ensures answer { result ≡ answer_to anyone comps.OptFlds value.now false self.old }
-        ensures written { OnOk result (self.new ≡ written anyone comps.OptFlds value.now 0 self.old) }
+    pub(crate) fn write_opt_flds(&mut self, foreign: bool, value: &Value) -> Result<Effect, u8>
+        ensures answer { result ≡ answer_to anyone foreign comps.OptFlds value.now false self.old }
+        ensures written { OnOk result (self.new ≡ attributes_written anyone [] comps.OptFlds value.now 0 self.old) }
         ensures unchanged { OnErr result (self.new ≡ self.old) }
     {
         match value {
-            Value::Bits(bits) => self.set_opt_flds(bits.as_slice()),
+            Value::Bits(bits) => self.set_opt_flds(foreign, bits.as_slice()),
             _ => Err(MISTYPED),
         }
     }
 
-    fn set_trg_ops(&mut self, bits: &[bool]) -> Result<Effect, u8>
-        ensures answer { result ≡ answer_to anyone comps.TrgOps (kinds.Bits bits.now) false self.old }
-        ensures written { OnOk result (self.new ≡ written anyone comps.TrgOps (kinds.Bits bits.now) 0 self.old) }
+    fn set_trg_ops(&mut self, foreign: bool, bits: &[bool]) -> Result<Effect, u8>
+        ensures answer { result ≡ answer_to anyone foreign comps.TrgOps (kinds.Bits bits.now) false self.old }
+        ensures written { OnOk result (self.new ≡ attributes_written anyone [] comps.TrgOps (kinds.Bits bits.now) 0 self.old) }
         ensures unchanged { OnErr result (self.new ≡ self.old) }
     {
-        self.take_bits(bits, 6)?;
+        self.take_bits(foreign, bits, 6)?;
         let differs = self.options.set_trg_ops(bits);
         Ok(purging(differs))
     }
 
-    pub(crate) fn write_trg_ops(&mut self, value: &Value) -> Result<Effect, u8>
-        ensures answer { result ≡ answer_to anyone comps.TrgOps value.now false self.old }
-        ensures written { OnOk result (self.new ≡ written anyone comps.TrgOps value.now 0 self.old) }
+    pub(crate) fn write_trg_ops(&mut self, foreign: bool, value: &Value) -> Result<Effect, u8>
+        ensures answer { result ≡ answer_to anyone foreign comps.TrgOps value.now false self.old }
+        ensures written { OnOk result (self.new ≡ attributes_written anyone [] comps.TrgOps value.now 0 self.old) }
         ensures unchanged { OnErr result (self.new ≡ self.old) }
     {
         match value {
-            Value::Bits(bits) => self.set_trg_ops(bits.as_slice()),
+            Value::Bits(bits) => self.set_trg_ops(foreign, bits.as_slice()),
             _ => Err(MISTYPED),
         }
     }
 
-    /// A number of 32 bits, for a block that nobody has enabled.
-    fn number(&self, n: u64) -> Result<u32, u8>
-        ensures { result ≡ (if is_some self.now.enabler then Err 2 else if nat_lt n (2 ^ 32) then Ok n else Err 11) }
+    /// A number of 32 bits, for a block that isn't held.
+    fn number(&self, foreign: bool, n: u64) -> Result<u32, u8>
+        ensures { result ≡ (if foreign || is_some self.now.enabler then Err 2 else if nat_lt n (2 ^ 32) then Ok n else Err 11) }
     {
-        if self.enabler.is_some() {
+        if foreign || self.enabler.is_some() {
             return Err(HELD);
         }
         if n > u32::MAX as u64 {
@@ -165,44 +170,44 @@ impl Block {
         Ok(n as u32)
     }
 
-    fn set_buf_tm(&mut self, n: u64) -> Result<Effect, u8>
-        ensures answer { result ≡ answer_to anyone comps.BufTm (kinds.Uint n) false self.old }
-        ensures written { OnOk result (self.new ≡ written anyone comps.BufTm (kinds.Uint n) 0 self.old) }
+    fn set_buf_tm(&mut self, foreign: bool, n: u64) -> Result<Effect, u8>
+        ensures answer { result ≡ answer_to anyone foreign comps.BufTm (kinds.Uint n) false self.old }
+        ensures written { OnOk result (self.new ≡ attributes_written anyone [] comps.BufTm (kinds.Uint n) 0 self.old) }
         ensures unchanged { OnErr result (self.new ≡ self.old) }
     {
-        let n = self.number(n)?;
+        let n = self.number(foreign, n)?;
         let differs = self.options.set_buf_tm(n);
         Ok(purging(differs))
     }
 
-    pub(crate) fn write_buf_tm(&mut self, value: &Value) -> Result<Effect, u8>
-        ensures answer { result ≡ answer_to anyone comps.BufTm value.now false self.old }
-        ensures written { OnOk result (self.new ≡ written anyone comps.BufTm value.now 0 self.old) }
+    pub(crate) fn write_buf_tm(&mut self, foreign: bool, value: &Value) -> Result<Effect, u8>
+        ensures answer { result ≡ answer_to anyone foreign comps.BufTm value.now false self.old }
+        ensures written { OnOk result (self.new ≡ attributes_written anyone [] comps.BufTm value.now 0 self.old) }
         ensures unchanged { OnErr result (self.new ≡ self.old) }
     {
         match value {
-            Value::Uint(n) => self.set_buf_tm(*n),
+            Value::Uint(n) => self.set_buf_tm(foreign, *n),
             _ => Err(MISTYPED),
         }
     }
 
-    fn set_intg_pd(&mut self, n: u64) -> Result<Effect, u8>
-        ensures answer { result ≡ answer_to anyone comps.IntgPd (kinds.Uint n) false self.old }
-        ensures written { OnOk result (self.new ≡ written anyone comps.IntgPd (kinds.Uint n) 0 self.old) }
+    fn set_intg_pd(&mut self, foreign: bool, n: u64) -> Result<Effect, u8>
+        ensures answer { result ≡ answer_to anyone foreign comps.IntgPd (kinds.Uint n) false self.old }
+        ensures written { OnOk result (self.new ≡ attributes_written anyone [] comps.IntgPd (kinds.Uint n) 0 self.old) }
         ensures unchanged { OnErr result (self.new ≡ self.old) }
     {
-        let n = self.number(n)?;
+        let n = self.number(foreign, n)?;
         let differs = self.options.set_intg_pd(n);
         Ok(purging(differs))
     }
 
-    pub(crate) fn write_intg_pd(&mut self, value: &Value) -> Result<Effect, u8>
-        ensures answer { result ≡ answer_to anyone comps.IntgPd value.now false self.old }
-        ensures written { OnOk result (self.new ≡ written anyone comps.IntgPd value.now 0 self.old) }
+    pub(crate) fn write_intg_pd(&mut self, foreign: bool, value: &Value) -> Result<Effect, u8>
+        ensures answer { result ≡ answer_to anyone foreign comps.IntgPd value.now false self.old }
+        ensures written { OnOk result (self.new ≡ attributes_written anyone [] comps.IntgPd value.now 0 self.old) }
         ensures unchanged { OnErr result (self.new ≡ self.old) }
     {
         match value {
-            Value::Uint(n) => self.set_intg_pd(*n),
+            Value::Uint(n) => self.set_intg_pd(foreign, *n),
             _ => Err(MISTYPED),
         }
     }

@@ -6,7 +6,7 @@ ghost use Rattle.std.specs.Int.{to_be_bytes, w64};
 ghost use Rattle.sv_base.specs.declared.value.Value.TheVariants as kinds;
 ghost use Rattle.bay_model.specs.Components.{stamp_of as stamp_at, no_stamp};
 
-use crate::block::Block;
+use crate::block::{Block, Holder};
 use crate::told::Retained;
 use bay_model::Comp;
 use std::alloc::{AllocError, Global};
@@ -27,6 +27,12 @@ fn bits(alloc: Global, bits: &[bool]) -> Result<Value, AllocError>
     ensures { IfOk result (λ v. v ≡ kinds.Bits bits.now) }
 {
     Ok(Value::Bits(Bits::from_vec(Vec::from_slice(alloc, bits)?)))
+}
+
+fn octets(alloc: Global, octets: &[u8]) -> Result<Value, AllocError>
+    ensures { IfOk result (λ v. v ≡ kinds.Octets octets.now) }
+{
+    Ok(Value::Octets(Octs::from_vec(Vec::from_slice(alloc, octets)?)))
 }
 
 fn entry_id(alloc: Global, n: u64) -> Result<Value, AllocError>
@@ -60,6 +66,35 @@ fn time_of_entry(newest: Option<Moment>) -> Stamp
 impl Block {
     ghost use Rattle.std.specs.Prelude.{◌≡◌, IfOk};
     ghost use Rattle.brcb_state.specs.Components.{read_of};
+    ghost use Rattle.std.specs.Option.{option_map};
+    ghost use Rattle.sv_base.specs.declared.value.Value.TheVariants as kinds;
+    ghost use Rattle.bay_model.specs.Components.{seconds_of, owner_of};
+    ghost use Rattle.bay_model.specs.Reservations.{lasting};
+    ghost use Rattle.brcb_state.specs.declared.block.Holder.{Holder};
+
+    /// The seconds of a reservation that lasts, else 0.
+    fn seconds(&self, now: Moment) -> u16
+        ensures { result ≡ seconds_of (lasting now self.now.reservation) }
+    {
+        match &self.reservation {
+            Some(reserved) if !reserved.is_run_out(now) => reserved.seconds(),
+            _ => 0,
+        }
+    }
+
+    /// The address that it is reserved for, else the enabler's, else no octets.
+    fn read_owner(&self, alloc: Global, now: Moment) -> Result<Value, AllocError>
+        ensures { IfOk result (λ v. v ≡ kinds.Octets (owner_of (option_map (λ (e : Holder). e.owner) self.now.enabler) (lasting now self.now.reservation))) }
+    {
+        match (&self.reservation, &self.enabler) {
+            (Some(reserved), _) if !reserved.is_run_out(now) => octets(
+                alloc,
+                reserved.owner().as_slice(),
+            ),
+            (_, Some(enabler)) => octets(alloc, enabler.owner.as_slice()),
+            _ => octets(alloc, &[]),
+        }
+    }
 
     /// What a component reads. `newest` is the moment of the newest entry, retained or not.
     pub fn read(
@@ -68,8 +103,9 @@ impl Block {
         comp: Comp,
         kept: Retained,
         newest: Option<Moment>,
+        now: Moment,
     ) -> Result<Value, AllocError>
-        ensures { IfOk result (λ v. v ≡ read_of comp kept newest self.now) }
+        ensures { IfOk result (λ v. v ≡ read_of comp kept newest now self.now) }
     {
         match comp {
             Comp::RptID => text(alloc, self.options.rpt_id()),
@@ -84,6 +120,8 @@ impl Block {
             Comp::GI | Comp::PurgeBuf => Ok(Value::Bool(false)),
             Comp::EntryID => entry_id(alloc, kept.len),
             Comp::TimeofEntry => Ok(Value::Stamp(time_of_entry(newest))),
+            Comp::ResvTms => Ok(Value::Int(i64::from(self.seconds(now)))),
+            Comp::Owner => self.read_owner(alloc, now),
         }
     }
 }

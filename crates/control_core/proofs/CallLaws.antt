@@ -31,7 +31,7 @@ bare-none : (d : Deed) → IsBare d → IsNoCall d
 bare-none (called a k call v) h = h
 bare-none (selected_control a k) h = h
 bare-none (lost a) h = tt
-bare-none (opened a o w size) h = tt
+bare-none (opened a o w size owner) h = tt
 bare-none (valued s) h = tt
 bare-none (finished k good) h = tt
 bare-none (blocked k flag) h = tt
@@ -52,7 +52,7 @@ none-accepted : (c : Model) (past : Past) (d : Deed) → IsNoCall d → IsAccept
 none-accepted c past (called a k call v) h = absurd h
 none-accepted c past (selected_control a k) h = absurd h
 none-accepted c past (lost a) h = tt
-none-accepted c past (opened a o w size) h = tt
+none-accepted c past (opened a o w size owner) h = tt
 none-accepted c past (valued s) h = tt
 none-accepted c past (finished k good) h = tt
 none-accepted c past (blocked k flag) h = tt
@@ -72,7 +72,7 @@ none-of : (a : ℕ) (d : Deed) → IsNoCall d → IsOf a d
 none-of a (called b k call v) h = absurd h
 none-of a (selected_control b k) h = absurd h
 none-of a (lost b) h = tt
-none-of a (opened b o w size) h = tt
+none-of a (opened b o w size owner) h = tt
 none-of a (valued s) h = tt
 none-of a (finished k good) h = tt
 none-of a (blocked k flag) h = tt
@@ -110,7 +110,7 @@ take-none c b past = either (is_none (ends b past)) (waiting c b past) where
   either false (ending j good ∷ ws) = tt
 
 step-none : (c : Model) (n : ℕ) (t : Turn) (past : Past) (s : Step) → IsNoCall (deed_at c n t past s)
-step-none c n t past (steps.Open a size writer) = tt
+step-none c n t past (steps.Open a size writer owner) = tt
 step-none c n t past (steps.Ask a r) = tt
 step-none c n t past (steps.Write a b comp v) = bare-none _ (write-bare c a.0 b.0 comp v (arrival n t.moment ∷ past))
 step-none c n t past (steps.Take a) = take-none c a.0 (arrival n t.moment ∷ past)
@@ -137,7 +137,7 @@ singles-accepted c a n m [] past h = h
 singles-accepted c a n m (s ∷ ss) past h = singles-accepted c a n m ss (after_single c a n m s past) (single-accepted c a s (arrival n m ∷ past), h)
 
 before-accepted : (c : Model) (n : ℕ) (t : Turn) (past : Past) (s : Step) → AreAccepted c past → AreAccepted c (singles_after c n t past s)
-before-accepted c n t past (steps.Open a size writer) h = h
+before-accepted c n t past (steps.Open a size writer owner) h = h
 before-accepted c n t past (steps.Ask a r) h = singles-accepted c a.0 n t.moment (singles_of c past r.service) past h
 before-accepted c n t past (steps.Write a b comp v) h = h
 before-accepted c n t past (steps.Take a) h = h
@@ -198,7 +198,7 @@ quiet-act : (c : Model) (a : ℕ) (past : Past) (d : Deed) → IsNoCall d → Ac
 quiet-act c a past (called b k call v) h x e = absurd h
 quiet-act c a past (selected_control b k) h x e = absurd h
 quiet-act c a past (lost b) h x e = absurd (cc e)
-quiet-act c a past (opened b o w size) h x e = absurd (cc e)
+quiet-act c a past (opened b o w size owner) h x e = absurd (cc e)
 quiet-act c a past (valued s) h x e = absurd (cc e)
 quiet-act c a past (finished k good) h x e = absurd (cc e)
 quiet-act c a past (blocked k flag) h x e = absurd (cc e)

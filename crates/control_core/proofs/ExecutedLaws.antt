@@ -225,7 +225,7 @@ module _ (c : Model) (k : ℕ) (enhanced : is_enhanced c k ≡ true) where
   quietly n m (blocked j flag) before q h = still_ n m (blocked j flag) before refl (λ i. refl) (λ i. refl) h
   quietly n m (reported a b i) before q h = still_ n m (reported a b i) before refl (λ i. refl) (λ i. refl) h
   quietly n m (called a j operate v) before q h = absurd q
-  quietly n m (opened a o w size) before q h = absurd q
+  quietly n m (opened a o w size owner) before q h = absurd q
   quietly n m (lost a) before q h = absurd q
   quietly n m (finished j good) before q h = absurd q
   quietly n m (answered a o ch) before q h = absurd q
@@ -286,7 +286,7 @@ module _ (c : Model) (k : ℕ) (enhanced : is_enhanced c k ≡ true) where
   singles n m b (s ∷ ss) past h = singles n m b ss (after_single c b n m s past) (outcome c b (arrival n m ∷ past) (λ d. Holds (point n m d ∷ past)) (of_singles n m b past h) s)
 
   turn : (n : ℕ) (t : Turn) (s : Step) (past : Past) → ((b e : ℕ) → endings e (waiting c b past) ≡ due_for b (execution c e past)) → Holds past → Holds (point n t.moment (deed_at c n t past s) ∷ singles_after c n t past s)
-  turn n t (steps.Open b size writer) past waits h = still_ n t.moment (opened b.0 t.actor writer.0 size) past refl (λ i. refl) (λ i. refl) h
+  turn n t (steps.Open b size writer owner) past waits h = still_ n t.moment (opened b.0 t.actor writer.0 size owner) past refl (λ i. refl) (λ i. refl) h
   turn n t (steps.Ask b r) past waits h = still_ n t.moment (deed_at c n t past (steps.Ask b r)) (after_singles c b.0 n t.moment (singles_of c past r.service) past) refl (λ i. refl) (λ i. refl)
       (singles n t.moment b.0 (singles_of c past r.service) past h)
   turn n t (steps.Write b x comp v) past waits h = quietly n t.moment (deed_at c n t past (steps.Write b x comp v)) past (write-quiet c b.0 x.0 comp v (arrival n t.moment ∷ past)) h
@@ -320,7 +320,7 @@ module _ (c : Model) (k : ℕ) (normal : is_enhanced c k ≡ false) where
   idle-deed (valued s) x h = h
   idle-deed (blocked j flag) x h = h
   idle-deed (reported a b i) x h = h
-  idle-deed (opened a o w size) x h = h
+  idle-deed (opened a o w size owner) x h = h
   idle-deed (answered a o ch) x h = h
   idle-deed (took a) x h = h
   idle-deed (called a j operate v) x h = rw normal (either (j == k)) where

@@ -135,7 +135,7 @@ module _ (c : Model) (k : ℕ) (selectable : is_selectable c k ≡ true) where
   bare n m (activated a d g) before h is = arrived n m before h
   bare n m (edited a d g) before h is = arrived n m before h
   bare n m (confirmed a d) before h is = arrived n m before h
-  bare n m (opened a o w size) before h is = arrived n m before h
+  bare n m (opened a o w size owner) before h is = arrived n m before h
   bare n m (valued s) before h is = arrived n m before h
   bare n m (finished j good) before h is = arrived n m before h
   bare n m (blocked j flag) before h is = arrived n m before h
@@ -251,7 +251,7 @@ module _ (c : Model) (k : ℕ) (selectable : is_selectable c k ≡ true) where
     either false (ending j good ∷ ws) = tt
 
   turn : (n : ℕ) (t : Turn) (s : Step) (past : Past) → Holds past → Holds (point n t.moment (deed_at c n t past s) ∷ singles_after c n t past s)
-  turn n t (steps.Open b size writer) past h = bare n t.moment (opened b.0 t.actor writer.0 size) past h tt
+  turn n t (steps.Open b size writer owner) past h = bare n t.moment (opened b.0 t.actor writer.0 size owner) past h tt
   turn n t (steps.Ask b r) past h = bare n t.moment (deed_at c n t past (steps.Ask b r)) (after_singles c b.0 n t.moment (singles_of c past r.service) past) (singles n t.moment b.0 (singles_of c past r.service) past h) tt
   turn n t (steps.Write b x comp v) past h = bare n t.moment (deed_at c n t past (steps.Write b x comp v)) past h (write-bare c b.0 x.0 comp v (arrival n t.moment ∷ past))
   turn n t (steps.Take b) past h = bare n t.moment (deed_at c n t past (steps.Take b)) past h (take-bare b.0 (arrival n t.moment ∷ past))

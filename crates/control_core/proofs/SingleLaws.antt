@@ -15,6 +15,7 @@ use Rattle.bay_model.specs.ComponentTable.{comp_kind}
 use Rattle.bay_model.specs.Parameters.{parameters_at}
 use Rattle.bay_model.specs.Settings.{edit}
 use Rattle.bay_model.specs.Blocks.{enabler, is_held}
+use Rattle.bay_model.specs.Reservations.{is_reserved_for_another}
 use Rattle.bay_model.specs.Calls.{Went, accepted, mistyped, barred, went, can_select}
 use Rattle.bay_model.specs.Outcomes.{gave, deed_of, first_code, refused}
 use Rattle.bay_model.specs.Reads.{read_role, read_tree, outcome_of_read}
@@ -54,7 +55,7 @@ code-quiet (t ∷ ts) d u = either t.0 (code-quiet ts d u) where
   either false u = u
 
 pub write-quiet : (c : Model) (a b : ℕ) (comp : Comp) (v : Value) (past : Past) → IsQuiet (deed_of (write_component c a b comp v past))
-write-quiet c a b comp v past = either (not (is_kind (comp_kind comp) v)) (not (is_written comp)) (is_held (λ e. e == a) comp v (enabler b past)) where
+write-quiet c a b comp v past = either (not (is_kind (comp_kind comp) v)) (not (is_written comp)) (is_reserved_for_another b a past || is_held (λ e. e == a) comp v (enabler b past)) where
   either : (x y z : Bool) → IsQuiet (deed_of (if x then refused 7 else (if y then refused 3 else (if z then refused 2 else first_code ((contradicts comp v (parameters_at c b past), 8) ∷ (not (is_in_range (comp_kind comp) v) || is_of_nothing c b comp v past, 11) ∷ []) (wrote a b comp v)))))
   either true y z = tt
   either false true z = tt
@@ -69,7 +70,7 @@ code-bare (t ∷ ts) d u = either t.0 (code-bare ts d u) where
   either false u = u
 
 pub write-bare : (c : Model) (a b : ℕ) (comp : Comp) (v : Value) (past : Past) → IsBare (deed_of (write_component c a b comp v past))
-write-bare c a b comp v past = either (not (is_kind (comp_kind comp) v)) (not (is_written comp)) (is_held (λ e. e == a) comp v (enabler b past)) where
+write-bare c a b comp v past = either (not (is_kind (comp_kind comp) v)) (not (is_written comp)) (is_reserved_for_another b a past || is_held (λ e. e == a) comp v (enabler b past)) where
   either : (x y z : Bool) → IsBare (deed_of (if x then refused 7 else (if y then refused 3 else (if z then refused 2 else first_code ((contradicts comp v (parameters_at c b past), 8) ∷ (not (is_in_range (comp_kind comp) v) || is_of_nothing c b comp v past, 11) ∷ []) (wrote a b comp v)))))
   either true y z = tt
   either false true z = tt
@@ -112,7 +113,7 @@ module _ (c : Model) (a : ℕ) (past : Past) (G : Deed → Type 0) (g : OfSingle
   refusals_further b comp v = (contradicts comp v (parameters_at c b past), 8) ∷ (not (is_in_range (comp_kind comp) v) || is_of_nothing c b comp v past, 11) ∷ []
 
   pub component_ : (b : ℕ) (comp : Comp) (v : Value) → G (deed_of (write_component c a b comp v past))
-  component_ b comp v = either (not (is_kind (comp_kind comp) v)) (not (is_written comp)) (is_held (λ e. e == a) comp v (enabler b past)) where
+  component_ b comp v = either (not (is_kind (comp_kind comp) v)) (not (is_written comp)) (is_reserved_for_another b a past || is_held (λ e. e == a) comp v (enabler b past)) where
     either : (x y z : Bool) → G (deed_of (if x then refused 7 else (if y then refused 3 else (if z then refused 2 else first_code (refusals_further b comp v) (wrote a b comp v)))))
     either true y z = g.of_quiet nothing tt tt
     either false true z = g.of_quiet nothing tt tt

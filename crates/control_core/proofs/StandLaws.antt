@@ -95,7 +95,7 @@ stands-deed c n m (lost a) before t h = record {
   count = length-map t.controls (lost_by a) ∙ h.count;
   each = λ k below. lost-at a t.controls k (omega (arith, h.count, below)) ∙ ap (lost_by a) (h.each k below);
 }
-stands-deed c n m (opened a o w size) before t h = stays c n m (opened a o w size) before t h (λ k. refl)
+stands-deed c n m (opened a o w size owner) before t h = stays c n m (opened a o w size owner) before t h (λ k. refl)
 stands-deed c n m (valued ss) before t h = stays c n m (valued ss) before t h (λ k. refl)
 stands-deed c n m (wrote a b comp v) before t h = stays c n m (wrote a b comp v) before t h (λ k. refl)
 stands-deed c n m (put a x v) before t h = stays c n m (put a x v) before t h (λ k. refl)

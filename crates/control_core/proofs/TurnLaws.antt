@@ -68,7 +68,7 @@ leaves c n m (called a k select v) past h = record { queue = λ b. refl; runs = 
 leaves c n m (called a k cancel v) past h = record { queue = λ b. refl; runs = λ k. refl; ends_ = λ b. refl; tests_ = refl }
 leaves c n m (selected_control a k) past h = record { queue = λ b. refl; runs = λ k. refl; ends_ = λ b. refl; tests_ = refl }
 leaves c n m (called a k operate v) past h = absurd h
-leaves c n m (opened a o w size) past h = absurd h
+leaves c n m (opened a o w size owner) past h = absurd h
 leaves c n m (lost a) past h = absurd h
 leaves c n m (valued s) past h = record { queue = λ b. refl; runs = λ k. refl; ends_ = λ b. refl; tests_ = refl }
 leaves c n m (finished k good) past h = absurd h
@@ -253,12 +253,12 @@ losses c n m a past h = record {
   either b j true e = rw e (subst (λ i. 0 ≡ due_for b (left i (execution c j past))) (sym (same-of a b e)) (sym (loss-own b (execution c j past))))
   either b j false e = rw e (h.waits b j ∙ sym (loss-other b a (execution c j past) e))
 
-openings : (c : Model) (n m a o w size : ℕ) (past : Past) → Settled c past → ends a past ≡ None → Settled c (point n m (opened a o w size) ∷ past)
-openings c n m a o w size past h closed = record {
+openings : (c : Model) (n m a o w size : ℕ) (owner : List ℕ) (past : Past) → Settled c past → ends a past ≡ None → Settled c (point n m (opened a o w size owner) ∷ past)
+openings c n m a o w size owner past h closed = record {
   waits = λ b j. either b j (a == b) refl;
-  open_ = λ j. open-after past (point n m (opened a o w size) ∷ past) (execution c j past) (λ b i. opens b (a == b) i) (h.open_ j);
+  open_ = λ j. open-after past (point n m (opened a o w size owner) ∷ past) (execution c j past) (λ b i. opens b (a == b) i) (h.open_ j);
 } where
-  either : (b j : ℕ) (t : Bool) → (a == b) ≡ t → endings j (waiting c b (point n m (opened a o w size) ∷ past)) ≡ due_for b (execution c j past)
+  either : (b j : ℕ) (t : Bool) → (a == b) ≡ t → endings j (waiting c b (point n m (opened a o w size owner) ∷ past)) ≡ due_for b (execution c j past)
   either b j true e = rw e (sym (due-closed past b (execution c j past) (subst (λ i. ends i past ≡ None) (same-of a b e) closed) (h.open_ j)))
   either b j false e = rw e (h.waits b j)
 
@@ -327,7 +327,7 @@ take_ c n m a past h = either (is_none (ends a past)) (waiting c a past) refl wh
 
 turn : (c : Model) (h : History) (t : Turn) (s : Step) → Settled c (points c h) → fault_at c t.actor (points c h) s ≡ None
     → Settled c (point (length h) t.moment (deed_at c (length h) t (points c h) s) ∷ singles_after c (length h) t (points c h) s)
-turn c h t (steps.Open a size writer) s none = openings c (length h) t.moment a.0 t.actor writer.0 size (points c h) s (closed-if (ends a.0 (points c h)) a.0 none)
+turn c h t (steps.Open a size writer owner) s none = openings c (length h) t.moment a.0 t.actor writer.0 size owner (points c h) s (closed-if (ends a.0 (points c h)) a.0 none)
 turn c h t (steps.Ask a r) s none = replies c (length h) t.moment a.0 _ _ (after_singles c a.0 (length h) t.moment (singles_of c (points c h) r.service) (points c h))
     (singles c (length h) t.moment a.0 (singles_of c (points c h) r.service) (points c h) (begins c h a.0 s (open-if (ends a.0 (points c h)) a.0 _ _ none)))
 turn c h t (steps.Write a b comp v) s none = settled-quietly c (length h) t.moment _ (points c h) s (write-quiet c a.0 b.0 comp v (arrival (length h) t.moment ∷ points c h))

@@ -8,7 +8,7 @@ use bay_model::{
 };
 use object_model::Model;
 use std::alloc::{AllocError, Global};
-use sv_base::{ActorNo, AssocNo, AttrId, NodeId, Octs, Value};
+use sv_base::{ActorNo, AssocNo, AttrId, NodeId, Octs, Owner, Value};
 
 /// What a thread does: the process sets the measured power, time passes, a client opens an association and reads or writes
 /// the deadband of the power, or what waits for both is taken.
@@ -36,6 +36,7 @@ fn opening(a: u32) -> Step {
         a: AssocNo(a),
         size: 65000,
         writer: ActorNo(1),
+        owner: Owner::of(AssocNo(a)),
     }
 }
 

@@ -77,6 +77,8 @@ component-own b comps.GI = tt
 component-own b comps.PurgeBuf = tt
 component-own b comps.EntryID = tt
 component-own b comps.TimeofEntry = tt
+component-own b comps.ResvTms = tt
+component-own b comps.Owner = tt
 
 setting-own : (d : ℕ) (comp : SettingComp) → IsOwn (single (model.setting d comp)) (setting_comp_type comp)
 setting-own d NumOfSG = tt

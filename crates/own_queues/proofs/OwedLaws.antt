@@ -192,7 +192,7 @@ module _ (c : Model) (a : ℕ) where
   still-tests _ q = refl
 
   pub still-waiting : (n m : ℕ) (d : Deed) (past : Past) → IsStill d → waiting c a (point n m d ∷ past) ≡ waiting c a past
-  still-waiting n m (opened e opener writer size) past q = absurd q
+  still-waiting n m (opened e opener writer size owner) past q = absurd q
   still-waiting n m (lost e) past q = absurd q
   still-waiting n m (answered e output ch) past q = absurd q
   still-waiting n m (took e) past q = absurd q

@@ -31,7 +31,7 @@ use Rattle.bay_model.proofs.AskedLaws.{open-if, no-tests}
 -- ---- whether it is open
 
 still-ends : (a : ℕ) (d : Deed) (was : Option Ends) → IsStill d → ends_after a d was ≡ was
-still-ends a (opened e opener writer size) was q = absurd q
+still-ends a (opened e opener writer size owner) was q = absurd q
 still-ends a (lost e) was q = absurd q
 still-ends a _ was q = refl
 
@@ -62,7 +62,7 @@ some-if true x y = refl
 some-if false x y = refl
 
 opened-turn : (c : Model) (a n : ℕ) (t : Turn) (s : Step) (past : Past) → is_some (ends a (point n t.moment (deed_at c n t past s) ∷ singles_after c n t past s)) ≡ open_behind a s (is_some (ends a past))
-opened-turn c a n t (steps.Open e size writer) past = some-if (e.0 == a) _ (ends a past)
+opened-turn c a n t (steps.Open e size writer owner) past = some-if (e.0 == a) _ (ends a past)
 opened-turn c a n t (steps.Ask e r) past = ap is_some (singles-ends c a e.0 n t.moment (singles_of c past r.service) past)
 opened-turn c a n t (steps.Write e b comp v) past =
     ap is_some (still-ends a _ (ends a past) (component_ c (arrival n t.moment ∷ past) e.0 b.0 comp v))
@@ -87,7 +87,7 @@ IsNothing n o = (n ≡ 0) × (o ≡ 0)
 module _ (c : Model) (a : ℕ) where
   shut-turn : (h : History) (t : Turn) (s : Step) → fault_at c t.actor (points c h) s ≡ None → (is_open a h ≡ false → IsNothing (waits a h) (opers c a h)) → open_behind a s (is_open a h) ≡ false
       → IsNothing (waits_behind a s (waits a h)) (opers_behind c a s (opers c a h))
-  shut-turn h t (steps.Open e size writer) goes zero is = either (e.0 == a) is where
+  shut-turn h t (steps.Open e size writer owner) goes zero is = either (e.0 == a) is where
     either : (b : Bool) → (if b then true else is_open a h) ≡ false → IsNothing (if b then 0 else waits a h) (if b then 0 else opers c a h)
     either true is = (refl, refl)
     either false is = zero is
@@ -252,7 +252,7 @@ module _ (c : Model) (a : ℕ) where
   module _ (apart : AreApart c) where
     level-turn : (h : History) (t : Turn) (s : Step) → fault_at c t.actor (points c h) s ≡ None → (is_some (ends a (points c h)) ≡ false → IsNothing (waits a h) (opers c a h)) → level (points c h) (waits a h) (opers c a h)
         → level (point (length h) t.moment (deed_at c (length h) t (points c h) s) ∷ singles_after c (length h) t (points c h) s) (waits_behind a s (waits a h)) (opers_behind c a s (opers c a h))
-    level-turn h t (steps.Open e size writer) goes shut l =
+    level-turn h t (steps.Open e size writer owner) goes shut l =
         start-level (e.0 == a) (waits a h) (opers c a h) (waiting c a (points c h)) (owed c a (points c h)) l
         (λ is. (shut (ap (λ b. is_some (ends b (points c h))) (sym (eqb-true e.0 a is)) ∙ opens (is_some (ends e.0 (points c h))) e.0 goes)).1)
     level-turn h t (steps.Ask e r) goes shut l =
@@ -279,7 +279,7 @@ AreOwn a None = Unit {0}
 AreOwn a (Some e) = (e.opener ≡ a) × (e.writer ≡ a)
 
 own-turn : (c : Model) (a n : ℕ) (t : Turn) (s : Step) (past : Past) → IsItsOwn t s → AreOwn a (ends a past) → AreOwn a (ends a (point n t.moment (deed_at c n t past s) ∷ singles_after c n t past s))
-own-turn c a n t (steps.Open e size writer) past own are = either (e.0 == a) refl where
+own-turn c a n t (steps.Open e size writer owner) past own are = either (e.0 == a) refl where
   either : (b : Bool) → (e.0 == a) ≡ b → AreOwn a (if b then Some (record { opener = t.actor; writer = writer.0; size = size }) else ends a past)
   either true is = (own.0 ∙ eqb-true e.0 a is, own.1 ∙ eqb-true e.0 a is)
   either false is = are
@@ -318,7 +318,7 @@ taken-yours None actor a own mine = refl
 taken-yours (Some e) actor a own mine = ap (λ b. if_yours b a None) (eq-eqb actor e.writer (mine ∙ sym own.1))
 
 accepted : (c : Model) (h : History) → AreTheirOwn h → (t : Turn) (s : Step) → IsItsOwn t s → IsInOrder (λ a. is_open a h) s → fault_at c t.actor (points c h) s ≡ own_fault s (λ a. waiting_replies c a (points c h))
-accepted c h own t (steps.Open e size writer) mine order = ap (λ b. if b then Some (IsOpen e.0) else None) (open_by_steps c h e.0 ∙ order)
+accepted c h own t (steps.Open e size writer owner) mine order = ap (λ b. if b then Some (IsOpen e.0) else None) (open_by_steps c h e.0 ∙ order)
 accepted c h own t (steps.Ask e r) mine order =
     opened-yours (ends e.0 (points c h)) t.actor e.0 (if nat_le 16 (waiting_replies c e.0 (points c h)) then Some (QueueFull e.0) else None) (open_by_steps c h e.0 ∙ order) (own-ends c h own e.0) mine
 accepted c h own t (steps.Write e b comp v) mine order = opened-yours (ends e.0 (points c h)) t.actor e.0 None (open_by_steps c h e.0 ∙ order) (own-ends c h own e.0) mine

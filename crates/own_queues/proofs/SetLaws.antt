@@ -122,7 +122,7 @@ module _ (c : Model) (apart : AreApart c) where
 
   turn-sets : (n : ℕ) (t : Turn) (s : Step) (past : Past) → Each IsPlain (dynamic past)
       → Each IsPlain (sets_after (deed_at c n t past s) (dynamic (singles_after c n t past s)))
-  turn-sets n t (steps.Open e size writer) past all = all
+  turn-sets n t (steps.Open e size writer owner) past all = all
   turn-sets n t (steps.Ask e r) past all =
       changed (change_of c past r.service) (dynamic (after_singles c e.0 n t.moment (singles_of c past r.service) past)) (change past r.service)
       (subst (Each IsPlain) (sym (singles-sets e.0 n t.moment (singles_of c past r.service) past)) all)

@@ -15,6 +15,7 @@ use Rattle.bay_model.specs.ComponentTable.{comp_kind}
 use Rattle.bay_model.specs.Parameters.{parameters_at}
 use Rattle.bay_model.specs.Settings.{edit}
 use Rattle.bay_model.specs.Blocks.{enabler, is_held}
+use Rattle.bay_model.specs.Reservations.{is_reserved_for_another}
 use Rattle.bay_model.specs.Calls.{Went, accepted, mistyped, barred, went, can_select}
 use Rattle.bay_model.specs.Controls.{is_enhanced}
 use Rattle.bay_model.specs.Outcomes.{gave, deed_of, first_code, refused}
@@ -25,7 +26,7 @@ use Rattle.own_queues.specs.Opers.{opers_at}
 
 -- it opens and loses nothing, runs and ends no command, puts no reply and gives none
 abbrev pub IsStill : Deed → Type 0
-IsStill (opened e opener writer size) = ⊥
+IsStill (opened e opener writer size owner) = ⊥
 IsStill (lost e) = ⊥
 IsStill (answered e output change) = ⊥
 IsStill (took e) = ⊥
@@ -75,7 +76,7 @@ module _ (c : Model) (past : Past) where
   refusals_further b comp v = (contradicts comp v (parameters_at c b past), 8) ∷ (not (is_in_range (comp_kind comp) v) || is_of_nothing c b comp v past, 11) ∷ []
 
   pub component_ : (a b : ℕ) (comp : Comp) (v : Value) → IsStill (deed_of (write_component c a b comp v past))
-  component_ a b comp v = either (not (is_kind (comp_kind comp) v)) (not (is_written comp)) (is_held (λ e. e == a) comp v (enabler b past)) where
+  component_ a b comp v = either (not (is_kind (comp_kind comp) v)) (not (is_written comp)) (is_reserved_for_another b a past || is_held (λ e. e == a) comp v (enabler b past)) where
     either : (x y z : Bool) → IsStill (deed_of (if x then refused 7 else (if y then refused 3 else (if z then refused 2 else first_code (refusals_further b comp v) (wrote a b comp v)))))
     either true y z = tt
     either false true z = tt

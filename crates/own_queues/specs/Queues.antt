@@ -14,7 +14,7 @@ use Rattle.own_queues.specs.Opers.{opers_by, AreApart}
 
 -- association a is open behind a step, where it was or wasn't before
 abbrev pub open_behind : ℕ → Step → Bool → Bool
-open_behind a (steps.Open e size writer) was = if e.0 == a then true else was
+open_behind a (steps.Open e size writer owner) was = if e.0 == a then true else was
 open_behind a (steps.Lost e) was = if e.0 == a then false else was
 open_behind a _ was = was
 
@@ -25,7 +25,7 @@ is_open a (t ∷ h) = open_behind a t.step (is_open a h)
 -- Its replies by its own steps: since its last `Open` each request adds one, and each Take takes one away, where one is there. No fewer
 -- wait: more do where a Take gave the termination of a command.
 abbrev pub waits_behind : ℕ → Step → ℕ → ℕ
-waits_behind a (steps.Open e size writer) n = if e.0 == a then 0 else n
+waits_behind a (steps.Open e size writer owner) n = if e.0 == a then 0 else n
 waits_behind a (steps.Ask e r) n = if e.0 == a then suc n else n
 waits_behind a (steps.Take e) n = if e.0 == a then n - 1 else n
 waits_behind a (steps.Lost e) n = if e.0 == a then 0 else n
@@ -37,7 +37,7 @@ waits a (t ∷ h) = waits_behind a t.step (waits a h)
 
 -- How many Opers of controls under enhanced security it wrote since its last `Open`: so many more can wait at most.
 abbrev pub opers_behind : Model → ℕ → Step → ℕ → ℕ
-opers_behind c a (steps.Open e size writer) n = if e.0 == a then 0 else n
+opers_behind c a (steps.Open e size writer owner) n = if e.0 == a then 0 else n
 opers_behind c a (steps.Ask e r) n = if e.0 == a then n + opers_by c (steps.Ask e r) else n
 opers_behind c a (steps.Lost e) n = if e.0 == a then 0 else n
 opers_behind c a _ n = n
@@ -48,7 +48,7 @@ opers c a (t ∷ h) = opers_behind c a t.step (opers c a h)
 
 -- a turn of an association is its own, and it opens itself as its writer
 abbrev pub IsItsOwn : Turn → Step → Type 0
-IsItsOwn t (steps.Open e size writer) = (t.actor ≡ e.0) × (writer.0 ≡ e.0)
+IsItsOwn t (steps.Open e size writer owner) = (t.actor ≡ e.0) × (writer.0 ≡ e.0)
 IsItsOwn t (steps.Ask e r) = t.actor ≡ e.0
 IsItsOwn t (steps.Write e b comp v) = t.actor ≡ e.0
 IsItsOwn t (steps.Take e) = t.actor ≡ e.0
@@ -61,7 +61,7 @@ AreTheirOwn (t ∷ h) = AreTheirOwn h × IsItsOwn t t.step
 
 -- a step opens an association that isn't open; it asks, writes and loses one that is
 abbrev pub IsInOrder : (ℕ → Bool) → Step → Type 0
-IsInOrder opened (steps.Open e size writer) = opened e.0 ≡ false
+IsInOrder opened (steps.Open e size writer owner) = opened e.0 ≡ false
 IsInOrder opened (steps.Ask e r) = opened e.0 ≡ true
 IsInOrder opened (steps.Write e b comp v) = opened e.0 ≡ true
 IsInOrder opened (steps.Lost e) = opened e.0 ≡ true

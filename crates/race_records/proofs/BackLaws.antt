@@ -26,9 +26,9 @@ use Rattle.record_history.specs.Histories.{form_after, form_at, form_of, said_in
 use Rattle.record_history.specs.Texts.{parts_of, turns_of, turns_in, text_behind, text_of}
 use Rattle.bay_histories.specs.Histories.{by, IsShuffle}
 use Rattle.bay_histories.specs.Histories as histories
-use Rattle.script_lines.specs.Owners.{may_have}
-use Rattle.script_lines.specs.declared.owner.Owner.{Owner}
-use Rattle.script_lines.specs.declared.owner.Owner.TheVariants as owners
+use Rattle.script_lines.specs.Parties.{may_have}
+use Rattle.script_lines.specs.declared.party.Party.{Party}
+use Rattle.script_lines.specs.declared.party.Party.TheVariants as parties
 use Rattle.actor_scripts.specs.Raced.{actors}
 use Rattle.actor_scripts.specs.Scripts.{turns_by, made_from, made_of}
 use Rattle.actor_scripts.specs.declared.made.Made.{Made}
@@ -109,12 +109,12 @@ module _ (c : Config) (k : ℕ) (own before : List (List ℕ)) (l : StepLine) (s
   }
 
   said-here : (form_at k before ≡ form_at k own) → (form_at 0 before ≡ shut) → IsSaid c before l k s
-  said-here same none = by is.owner is.may is.actor where
-    by : (owner : Owner) → may_have owner is.line ≡ true → IsActor k owner own l.form → IsSaid c before l k s
-    by (owners.Association a) may actor =
+  said-here same none = by is.party is.may is.actor where
+    by : (party : Party) → may_have party is.line ≡ true → IsActor k party own l.form → IsSaid c before l k s
+    by (parties.Association a) may actor =
         let made = association-made c (form_in l.form) (actor_of k s.step) s.step a is.line may is.told in
         said-by (ap (λ n. form_at n before) (made.0 ∙ sym actor.0) ∙ (same ∙ sym actor.1))
-    by owners.Process may actor =
+    by parties.Process may actor =
         let made = process-made c (form_in l.form) (actor_of k s.step) s.step is.line may is.told in
         said-by (ap (λ n. form_at n before) made.0 ∙ (none ∙ sym (ap form_in actor.1)))
 
@@ -123,10 +123,10 @@ module _ (c : Config) (k : ℕ) (own before : List (List ℕ)) (l : StepLine) (s
   own-behind same = ap (form_after k (line_at l.text)) same
 
   other-behind : (a : ℕ) → (k ≡ a → ⊥) → form_at a (l.text ∷ before) ≡ form_at a before
-  other-behind a other = ap (λ r. form_after a r (form_at a before)) is.read ∙ by is.owner is.may is.actor where
-    by : (owner : Owner) → may_have owner is.line ≡ true → IsActor k owner own l.form → form_behind a is.line (form_at a before) ≡ form_at a before
-    by (owners.Association b) may actor = others-stay b is.line a (form_at a before) may (λ e. other (actor.0 ∙ e))
-    by owners.Process may actor = process-stays is.line a (form_at a before) may
+  other-behind a other = ap (λ r. form_after a r (form_at a before)) is.read ∙ by is.party is.may is.actor where
+    by : (party : Party) → may_have party is.line ≡ true → IsActor k party own l.form → form_behind a is.line (form_at a before) ≡ form_at a before
+    by (parties.Association b) may actor = others-stay b is.line a (form_at a before) may (λ e. other (actor.0 ∙ e))
+    by parties.Process may actor = process-stays is.line a (form_at a before) may
 
 -- ---- a history within the scripts
 

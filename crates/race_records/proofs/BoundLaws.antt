@@ -21,7 +21,7 @@ use Rattle.race_records.proofs.Owns.{NeverFull}
 -- at a greater number there is no more room
 pub more-beyond : (n m : ℕ) (s : Step) → n ≤ m → is_beyond n s ≡ true → is_beyond m s ≡ true
 more-beyond n m (steps.Ask e r) le h = grind (arith, nat_tests)
-more-beyond n m (steps.Open e size writer) le h = h
+more-beyond n m (steps.Open e size writer owner) le h = h
 more-beyond n m (steps.Write e b comp v) le h = h
 more-beyond n m (steps.Take e) le h = h
 more-beyond n m (steps.Lost e) le h = h
@@ -50,7 +50,7 @@ module _ (c : Model) (k : ℕ) where
   -- ---- where no step writes an Oper
 
   idle : (s : Step) (m : ℕ) → opers_by c s ≡ 0 → m ≡ 0 → opers_behind c k s m ≡ 0
-  idle (steps.Open e size writer) m none is = either (e.0 == k) where
+  idle (steps.Open e size writer owner) m none is = either (e.0 == k) where
     either : (b : Bool) → (if b then 0 else m) ≡ 0
     either true = refl
     either false = is

@@ -82,7 +82,7 @@ asked-full e false o h = absurd cc
 -- a step that is refused so is a request for which there is no room
 full-beyond : (k m : ℕ) (s : Step) (n : ℕ → ℕ) (o : Fault) → IsItsOwn (histories.turn_of m k s) s → Some o ≡ own_fault s n → (is_beyond (n k) s ≡ true) × (e : ℕ) × (o ≡ QueueFull e)
 full-beyond k m (steps.Ask e r) n o own h = let f = asked-full e.0 (nat_le 16 (n e.0)) o h in (ap (λ a. nat_le 16 (n a)) own ∙ f.0, e.0, f.1)
-full-beyond k m (steps.Open e size writer) n o own h = absurd cc
+full-beyond k m (steps.Open e size writer owner) n o own h = absurd cc
 full-beyond k m (steps.Write e b comp v) n o own h = absurd cc
 full-beyond k m (steps.Take e) n o own h = absurd cc
 full-beyond k m (steps.Lost e) n o own h = absurd cc

@@ -20,7 +20,7 @@ use Rattle.run_record.specs.declared.line.RecLine.TheVariants as lines
 use Rattle.run_record.specs.declared.pairs.Pair.{Pair}
 use Rattle.record_steps.specs.Asks.{asked_by}
 use Rattle.record_steps.specs.Forms.{Form, shut, direct, mms, dialling, wire, is_shut, is_direct, form_behind}
-use Rattle.record_steps.specs.Own.{IsOwn}
+use Rattle.record_steps.specs.Own.{IsOwn, own_opening}
 use Rattle.record_steps.specs.Resolved.{opened_in, opened_as, valued_as, written_as, lost_as, asked_as, spelled_as, sent_as, piece_as, fed_as, set_to, set_as, ended_as, blocked_as, told_of}
 use Rattle.record_steps.specs.Settings.{are_named, settings_at}
 use Rattle.record_steps.specs.Shapes.{shape_at}
@@ -31,9 +31,9 @@ use Rattle.record_steps.specs.declared.heard.Wired.TheVariants.{Dialling, On}
 use Rattle.record_steps.proofs.ToldLaws.{told-own}
 use Rattle.record_history.specs.Histories.{form_after, form_at}
 use Rattle.bay_histories.specs.Histories as histories
-use Rattle.script_lines.specs.Owners.{may_have}
-use Rattle.script_lines.specs.declared.owner.Owner.{Owner}
-use Rattle.script_lines.specs.declared.owner.Owner.TheVariants as owners
+use Rattle.script_lines.specs.Parties.{may_have}
+use Rattle.script_lines.specs.declared.party.Party.{Party}
+use Rattle.script_lines.specs.declared.party.Party.TheVariants as parties
 use Rattle.actor_scripts.specs.declared.script.TimedStep.{TimedStep}
 use Rattle.written_histories.specs.Written.{actor_of}
 use Rattle.own_queues.specs.Queues.{open_behind, IsItsOwn, IsInOrder}
@@ -115,8 +115,8 @@ module _ (c : Config) (k actor : ℕ) (step : Step) where
   Agrees line f actor s = not (is_shut (form_behind k line f)) ≡ open_behind k s (not (is_shut f))
 
   open-agrees : (a : AssocNo) (asked : OpenForm) (f : Form) → opened_in c a asked ≡ turn actor step → Agrees (lines.Open a asked) f actor step
-  open-agrees a opens.Direct f h = made c a.0 actor (steps.Open a 65000 (record { 0 = a.0 })) step (Agrees (lines.Open a opens.Direct) f) h (open-if (a.0 == k) direct f refl)
-  open-agrees a (opens.Mms size) f h = made c a.0 actor (steps.Open a size (record { 0 = a.0 })) step (Agrees (lines.Open a (opens.Mms size)) f) h (open-if (a.0 == k) (mms size) f refl)
+  open-agrees a opens.Direct f h = made c a.0 actor (own_opening a 65000) step (Agrees (lines.Open a opens.Direct) f) h (open-if (a.0 == k) direct f refl)
+  open-agrees a (opens.Mms size) f h = made c a.0 actor (own_opening a size) step (Agrees (lines.Open a (opens.Mms size)) f) h (open-if (a.0 == k) (mms size) f refl)
   open-agrees a opens.Wire f h = absurd cc
 
   opened-agrees : (a : AssocNo) (asked : OpenForm) (f : Form) → opened_as c f a asked ≡ turn actor step → Agrees (lines.Open a asked) f actor step
@@ -159,7 +159,7 @@ none-one zero is other = absurd (cc is)
 none-one (suc n) is other = absurd (cc other)
 
 process-own : (k m : ℕ) (s : Step) → IsOfNone s → IsItsOwn (histories.turn_of m k s) s
-process-own k m (steps.Open e size writer) h = absurd (none-one 1 refl (h 1))
+process-own k m (steps.Open e size writer owner) h = absurd (none-one 1 refl (h 1))
 process-own k m (steps.Ask e r) h = absurd (none-one 1 refl (h 1))
 process-own k m (steps.Write e b comp v) h = absurd (none-one 1 refl (h 1))
 process-own k m (steps.Take e) h = absurd (none-one 1 refl (h 1))
@@ -170,7 +170,7 @@ process-own k m (steps.Block n flag) h = tt
 process-own k m steps.Tick h = tt
 
 process-order : (opened : ℕ → Bool) (s : Step) → IsOfNone s → IsInOrder opened s
-process-order opened (steps.Open e size writer) h = absurd (none-one 1 refl (h 1))
+process-order opened (steps.Open e size writer owner) h = absurd (none-one 1 refl (h 1))
 process-order opened (steps.Ask e r) h = absurd (none-one 1 refl (h 1))
 process-order opened (steps.Write e b comp v) h = absurd (none-one 1 refl (h 1))
 process-order opened (steps.Take e) h = tt
@@ -181,7 +181,7 @@ process-order opened (steps.Block n flag) h = tt
 process-order opened steps.Tick h = tt
 
 process-still : (k : ℕ) (s : Step) → IsOfNone s → (was : Bool) → open_behind k s was ≡ was
-process-still k (steps.Open e size writer) h was = absurd (none-one 1 refl (h 1))
+process-still k (steps.Open e size writer owner) h was = absurd (none-one 1 refl (h 1))
 process-still k (steps.Ask e r) h was = refl
 process-still k (steps.Write e b comp v) h was = refl
 process-still k (steps.Take e) h was = refl
@@ -195,7 +195,7 @@ process-still k steps.Tick h was = refl
 
 module _ (opened : ℕ → Bool) (k actor m : ℕ) (same : actor ≡ k) where
   association-own : (s : Step) → IsOwn opened actor s → IsItsOwn (histories.turn_of m k s) s
-  association-own (steps.Open e size writer) own = (sym same ∙ own.1, own.2)
+  association-own (steps.Open e size writer owner) own = (sym same ∙ own.1, own.2)
   association-own (steps.Ask e r) own = sym same ∙ own.1
   association-own (steps.Write e b comp v) own = sym same ∙ own.1
   association-own (steps.Take e) own = sym same ∙ own
@@ -211,7 +211,7 @@ module _ (opened : ℕ → Bool) (k actor m : ℕ) (same : actor ≡ k) where
     at-own e is = agrees e (sym is ∙ same)
 
     association-order : (s : Step) → IsOwn opened actor s → IsInOrder open_so s
-    association-order (steps.Open e size writer) own = at-own e.0 own.1 ∙ own.0
+    association-order (steps.Open e size writer owner) own = at-own e.0 own.1 ∙ own.0
     association-order (steps.Ask e r) own = at-own e.0 own.1 ∙ own.0
     association-order (steps.Write e b comp v) own = at-own e.0 own.1 ∙ own.0
     association-order (steps.Take e) own = tt
@@ -237,22 +237,22 @@ module _ (c : Config) (k : ℕ) (before : List (List ℕ)) (l : StepLine) (s : T
   own-so = (told-own c as_told f actor s.step is.line refl is.told).0
 
   pub own-step : IsItsOwn (histories.turn_of s.moment k s.step) s.step
-  own-step = by is.owner is.may is.actor where
-    by : (owner : Owner) → may_have owner is.line ≡ true → IsActor k owner before l.form → IsItsOwn (histories.turn_of s.moment k s.step) s.step
-    by (owners.Association a) may of = association-own as_told k actor s.moment ((association-made c f actor s.step a is.line may is.told).1.1 k) s.step own-so
-    by owners.Process may of = process-own k s.moment s.step (process-made c f actor s.step is.line may is.told).1.1
+  own-step = by is.party is.may is.actor where
+    by : (party : Party) → may_have party is.line ≡ true → IsActor k party before l.form → IsItsOwn (histories.turn_of s.moment k s.step) s.step
+    by (parties.Association a) may of = association-own as_told k actor s.moment ((association-made c f actor s.step a is.line may is.told).1.1 k) s.step own-so
+    by parties.Process may of = process-own k s.moment s.step (process-made c f actor s.step is.line may is.told).1.1
 
   pub in-order : (opened : ℕ → Bool) → opened k ≡ not (is_shut (form_at k before)) → IsInOrder opened s.step
-  in-order opened agrees = by is.owner is.may is.actor where
-    by : (owner : Owner) → may_have owner is.line ≡ true → IsActor k owner before l.form → IsInOrder opened s.step
-    by (owners.Association a) may of =
+  in-order opened agrees = by is.party is.may is.actor where
+    by : (party : Party) → may_have party is.line ≡ true → IsActor k party before l.form → IsInOrder opened s.step
+    by (parties.Association a) may of =
         association-order as_told k actor s.moment ((association-made c f actor s.step a is.line may is.told).1.1 k) opened
         (λ e same. ap opened same ∙ (agrees ∙ ap (λ g. not (is_shut g)) (sym of.1))) s.step own-so
-    by owners.Process may of = process-order opened s.step (process-made c f actor s.step is.line may is.told).1.1
+    by parties.Process may of = process-order opened s.step (process-made c f actor s.step is.line may is.told).1.1
 
   pub open-more : not (is_shut (form_at k (l.text ∷ before))) ≡ open_behind k s.step (not (is_shut (form_at k before)))
-  open-more = ap (λ r. not (is_shut (form_after k r (form_at k before)))) is.read ∙ by is.owner is.may is.actor where
-    by : (owner : Owner) → may_have owner is.line ≡ true → IsActor k owner before l.form → not (is_shut (form_behind k is.line (form_at k before))) ≡ open_behind k s.step (not (is_shut (form_at k before)))
-    by (owners.Association a) may of = subst (λ g. not (is_shut (form_behind k is.line g)) ≡ open_behind k s.step (not (is_shut g))) of.1 (line-agrees c k actor s.step f is.line is.told)
-    by owners.Process may of =
+  open-more = ap (λ r. not (is_shut (form_after k r (form_at k before)))) is.read ∙ by is.party is.may is.actor where
+    by : (party : Party) → may_have party is.line ≡ true → IsActor k party before l.form → not (is_shut (form_behind k is.line (form_at k before))) ≡ open_behind k s.step (not (is_shut (form_at k before)))
+    by (parties.Association a) may of = subst (λ g. not (is_shut (form_behind k is.line g)) ≡ open_behind k s.step (not (is_shut g))) of.1 (line-agrees c k actor s.step f is.line is.told)
+    by parties.Process may of =
         ap (λ g. not (is_shut g)) (process-stays is.line k (form_at k before) may) ∙ sym (process-still k s.step (process-made c f actor s.step is.line may is.told).1.1 (not (is_shut (form_at k before))))

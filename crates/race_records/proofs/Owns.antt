@@ -18,7 +18,7 @@ unlike : (a e k : ℕ) → a ≡ e → (a ≡ k → ⊥) → (e == k) ≡ false
 unlike a e k is other = elim (eqb_tells e k) [ inl t ↦ absurd (other (is ∙ t.1)) | inr t ↦ t.0 ]
 
 other-waits : (k n : ℕ) (t : Turn) (s : Step) → IsItsOwn t s → (t.actor ≡ k → ⊥) → waits_behind k s n ≡ n
-other-waits k n t (steps.Open e size writer) own other = ap (λ b. if b then 0 else n) (unlike t.actor e.0 k own.0 other)
+other-waits k n t (steps.Open e size writer owner) own other = ap (λ b. if b then 0 else n) (unlike t.actor e.0 k own.0 other)
 other-waits k n t (steps.Ask e r) own other = ap (λ b. if b then suc n else n) (unlike t.actor e.0 k own other)
 other-waits k n t (steps.Write e b comp v) own other = refl
 other-waits k n t (steps.Take e) own other = ap (λ b. if b then n - 1 else n) (unlike t.actor e.0 k own other)
@@ -29,7 +29,7 @@ other-waits k n t (steps.Block c flag) own other = refl
 other-waits k n t steps.Tick own other = refl
 
 other-opers : (c : Model) (k n : ℕ) (t : Turn) (s : Step) → IsItsOwn t s → (t.actor ≡ k → ⊥) → opers_behind c k s n ≡ n
-other-opers c k n t (steps.Open e size writer) own other = ap (λ b. if b then 0 else n) (unlike t.actor e.0 k own.0 other)
+other-opers c k n t (steps.Open e size writer owner) own other = ap (λ b. if b then 0 else n) (unlike t.actor e.0 k own.0 other)
 other-opers c k n t (steps.Ask e r) own other = ap (λ b. if b then n + opers_of c r.service else n) (unlike t.actor e.0 k own other)
 other-opers c k n t (steps.Write e b comp v) own other = refl
 other-opers c k n t (steps.Take e) own other = refl
@@ -40,7 +40,7 @@ other-opers c k n t (steps.Block x flag) own other = refl
 other-opers c k n t steps.Tick own other = refl
 
 other-opened : (k : ℕ) (was : Bool) (t : Turn) (s : Step) → IsItsOwn t s → (t.actor ≡ k → ⊥) → open_behind k s was ≡ was
-other-opened k was t (steps.Open e size writer) own other = ap (λ b. if b then true else was) (unlike t.actor e.0 k own.0 other)
+other-opened k was t (steps.Open e size writer owner) own other = ap (λ b. if b then true else was) (unlike t.actor e.0 k own.0 other)
 other-opened k was t (steps.Ask e r) own other = refl
 other-opened k was t (steps.Write e b comp v) own other = refl
 other-opened k was t (steps.Take e) own other = refl
@@ -79,7 +79,7 @@ NeverFull k (t ∷ h) = NeverFull k h × (is_beyond (waits k h) t.step ≡ false
 
 room : (c : Model) → AreApart c → (h : History) → IsHistory c h → AreTheirOwn h → (t : Turn) (s : Step) → t.step ≡ s → IsHistory c (t ∷ h) → IsItsOwn t s → is_beyond (waits t.actor h) s ≡ false
 room c apart h legal own t (steps.Ask e r) is next mine = ap (λ a. nat_le 16 (waits a h)) mine ∙ asked_with_room c apart h legal t e r is next.1
-room c apart h legal own t (steps.Open e size writer) is next mine = refl
+room c apart h legal own t (steps.Open e size writer owner) is next mine = refl
 room c apart h legal own t (steps.Write e b comp v) is next mine = refl
 room c apart h legal own t (steps.Take e) is next mine = refl
 room c apart h legal own t (steps.Lost e) is next mine = refl

@@ -26,6 +26,7 @@ use Rattle.record_steps.specs.Shapes.{shape_at}
 use Rattle.record_steps.specs.Forms.{Form, shut, direct, mms, dialling, wire, is_shut, is_direct}
 use Rattle.record_steps.specs.Asks.{asked_by}
 use Rattle.record_steps.specs.Settings.{are_named, settings_at}
+use Rattle.record_steps.specs.Own.{own_opening}
 use Rattle.record_steps.specs.Resolved.{turn_of, opened_in, valued_as, written_as, lost_as, asked_as, spelled_as, sent_as, piece_as, fed_as, set_to, ended_as, blocked_as, told_of}
 use Rattle.record_steps.specs.Streams.{piece_at}
 use Rattle.record_steps.specs.Told.{Told, turn, refused, last}
@@ -43,8 +44,8 @@ if-goes true t kind goes h = goes h
 if-goes false t kind goes h = absurd cc
 
 shut-goes : (c : Config) (a : AssocNo) (asked : OpenForm) → opened_in c a asked ≡ last → ⊥
-shut-goes c a opens.Direct h = turn-goes c a.0 (steps.Open a 65000 (record { 0 = a.0 })) h
-shut-goes c a (opens.Mms size) h = turn-goes c a.0 (steps.Open a size (record { 0 = a.0 })) h
+shut-goes c a opens.Direct h = turn-goes c a.0 (own_opening a 65000) h
+shut-goes c a (opens.Mms size) h = turn-goes c a.0 (own_opening a size) h
 shut-goes c a opens.Wire h = absurd cc
 
 value-goes : (c : Config) (a : AssocNo) (b : ℕ) (comp : Comp) (o : Option Value) → valued_as c a b comp o ≡ last → ⊥

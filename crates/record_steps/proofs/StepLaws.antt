@@ -47,8 +47,8 @@ module _ (c : Config) (a : AssocNo) (is : IsAssoc a) where
   fitting : (actor : ℕ) (step : Step) → fits c step ≡ true → turn actor step ≡ turn_of c actor step
   fitting actor step h = sym (ap (λ b. if b then turn actor step else refused 4) h)
 
-  pub open-told : (writer : ActorNo) (size : ℕ) → 1024 ≤ size → size ≤ 65000 → turn a.0 (steps.Open a size writer) ≡ turn_of c a.0 (steps.Open a size writer)
-  open-told writer size least most = fitting a.0 (steps.Open a size writer) (and_from _ _ (is_numbered a is) (and_from _ _ (le-leb 1024 size least) (le-leb size 65000 most)))
+  pub open-told : (writer : ActorNo) (size : ℕ) (owner : List ℕ) → 1024 ≤ size → size ≤ 65000 → turn a.0 (steps.Open a size writer owner) ≡ turn_of c a.0 (steps.Open a size writer owner)
+  open-told writer size owner least most = fitting a.0 (steps.Open a size writer owner) (and_from _ _ (is_numbered a is) (and_from _ _ (le-leb 1024 size least) (le-leb size 65000 most)))
 
   pub ask-told : (r : Request) → IsFitting c r → turn a.0 (steps.Ask a r) ≡ turn_of c a.0 (steps.Ask a r)
   ask-told r fit = fitting a.0 (steps.Ask a r) (fit a (is_numbered a is))

@@ -29,7 +29,7 @@ use Rattle.record_steps.specs.Told.{turn, refused}
 use Rattle.record_steps.specs.declared.heard.Wired.{Wired}
 use Rattle.record_steps.specs.declared.heard.Wired.TheVariants.{Dialling, On}
 use Rattle.record_steps.specs.Telling.{NamesNone}
-use Rattle.record_steps.specs.Own.{IsOwn}
+use Rattle.record_steps.specs.Own.{IsOwn, own_opening}
 
 module _ (c : Config) (form : Form) (a : AssocNo) (block : Option ℕ) (b : ℕ) (comp : Option Comp) (k : Comp) (word : List ℕ) (is-block : block ≡ Some b) (is-comp : comp ≡ Some k) (opened : is_direct form ≡ true) (v : Value) (is : shape_at k word ≡ Some v) where
   named : written_as c form a block comp word ≡ (if is_direct form then valued_as c a b k (shape_at k word) else refused 5)
@@ -73,8 +73,8 @@ module _ (c : Config) (is_open : ℕ → Bool) (form : Form) (actor : ℕ) (step
   Own = IsOwn is_open actor step × (fits c step ≡ true)
 
   shut-own : (a : AssocNo) (asked : OpenForm) → is_open a.0 ≡ false → opened_in c a asked ≡ turn actor step → Own
-  shut-own a opens.Direct e h = turned c a.0 actor (steps.Open a 65000 (record { 0 = a.0 })) step (IsOwn is_open) h (e, refl, refl)
-  shut-own a (opens.Mms size) e h = turned c a.0 actor (steps.Open a size (record { 0 = a.0 })) step (IsOwn is_open) h (e, refl, refl)
+  shut-own a opens.Direct e h = turned c a.0 actor (own_opening a 65000) step (IsOwn is_open) h (e, refl, refl)
+  shut-own a (opens.Mms size) e h = turned c a.0 actor (own_opening a size) step (IsOwn is_open) h (e, refl, refl)
   shut-own a opens.Wire e h = absurd cc
 
   open-own : (a : AssocNo) (asked : OpenForm) → is_open a.0 ≡ not (is_shut form) → opened_as c form a asked ≡ turn actor step → Own

@@ -23,6 +23,7 @@ use Rattle.text_words.specs.Values.{hex_at}
 use Rattle.record_values.specs.Shapes.{shape_at}
 use Rattle.record_steps.specs.Forms.{Form, shut, mms, dialling, wire, is_shut, is_direct}
 use Rattle.record_steps.specs.Asks.{asked_by}
+use Rattle.record_steps.specs.Own.{own_opening}
 use Rattle.record_values.specs.Settings.{are_named, settings_at}
 use Rattle.record_steps.specs.Streams.{piece_at, events_behind, refusal_behind, heard_through}
 use Rattle.record_steps.specs.Told.{Told, skip, pass_to, turn, heard, refused, last}
@@ -45,8 +46,8 @@ turn_of c actor step = if fits c step then turn actor step else refused 4
 
 -- one that isn't open is opened, direct with the greatest size of a PDU; one of a stream opens when it is connected
 abbrev pub opened_in : Config → AssocNo → OpenForm → Told
-opened_in c a opens.Direct = turn_of c a.0 (steps.Open a 65000 (record { 0 = a.0 }))
-opened_in c a (opens.Mms size) = turn_of c a.0 (steps.Open a size (record { 0 = a.0 }))
+opened_in c a opens.Direct = turn_of c a.0 (own_opening a 65000)
+opened_in c a (opens.Mms size) = turn_of c a.0 (own_opening a size)
 opened_in c a opens.Wire = skip
 
 abbrev pub opened_as : Config → Form → AssocNo → OpenForm → Told

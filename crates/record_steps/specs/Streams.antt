@@ -15,6 +15,7 @@ use Rattle.osi_stack.specs.declared.fault.StackFault.TheVariants as faults
 use Rattle.text_words.specs.Values.{hex_at}
 use Rattle.stream_lines.specs.Lines.{frame_line, fault_line, released_line, aborted_line}
 use Rattle.record_steps.specs.Asks.{asked_by}
+use Rattle.record_steps.specs.Own.{own_opening}
 use Rattle.record_steps.specs.declared.heard.Heard.{Heard}
 use Rattle.record_steps.specs.declared.heard.Heard.TheVariants.{Tells, Makes}
 use Rattle.record_steps.specs.declared.heard.Wired.{Wired}
@@ -74,7 +75,7 @@ asked_heard a (Some r) = Makes (record { 0 = a.0 }) (steps.Ask a r) ∷ []
 -- an answer is a frame; the association opens, with the size that was agreed, when it is connected
 abbrev pub heard_by : Config → AssocNo → Wired → Event → List Heard
 heard_by c a w (Answer octets) = Tells (frame_line a.0 octets) ∷ []
-heard_by c a w (Connected line octets) = Makes (record { 0 = a.0 }) (steps.Open a line.size (record { 0 = a.0 })) ∷ Tells (frame_line a.0 octets) ∷ []
+heard_by c a w (Connected line octets) = Makes (record { 0 = a.0 }) (own_opening a line.size) ∷ Tells (frame_line a.0 octets) ∷ []
 heard_by c a w (Pdu octets) = asked_heard a (asked_by c octets)
 heard_by c a w (Released octets) = Tells (frame_line a.0 octets ++ released_line a.0) ∷ lost_by a w
 heard_by c a w Aborted = Tells (aborted_line a.0) ∷ lost_by a w

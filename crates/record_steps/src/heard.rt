@@ -2,13 +2,12 @@
 
 ghost use Rattle.std.specs.Prelude.{◌≡◌, ◌++◌, ◌∷◌, [], IfOk, OnOk};
 ghost use Rattle.std.specs.List.{AllByRecursion};
-ghost use Rattle.bay_model.specs.declared.step.Step.TheVariants as steps;
 ghost use Rattle.run_record.specs.Grammar.{IsAssoc};
 ghost use Rattle.osi_stack.specs.Lines.{HasLine};
 ghost use Rattle.stream_lines.specs.Lines.{frame_line, released_line, aborted_line};
 ghost use Rattle.record_steps.specs.declared.heard.Heard.TheVariants.{Tells, Makes};
 ghost use Rattle.record_steps.specs.Asks.{asked_by};
-ghost use Rattle.record_steps.specs.Own.{IsFittingPart};
+ghost use Rattle.record_steps.specs.Own.{IsFittingPart, own_opening};
 ghost use Rattle.record_steps.specs.Streams.{IsWired, wired_by, wired_through, lost_by, asked_heard, heard_by, heard_fault, heard_through};
 
 use bay_model::Step;
@@ -17,7 +16,7 @@ use object_model::Model;
 use osi_stack::{Event, Line, StackFault};
 use std::alloc::{AllocError, Global};
 use stream_lines::{push_aborted, push_fault, push_frame, push_released};
-use sv_base::{ActorNo, AssocNo, Octs};
+use sv_base::{ActorNo, AssocNo, Octs, Owner};
 
 /// A part of what a piece of a stream comes to.
 #[derive(Drop)]
@@ -75,7 +74,7 @@ fn connect(
     octets: &[u8],
     heard: &mut Vec<Heard>,
 ) -> Result<(), AllocError>
-    ensures { OnOk result (heard.new.items ≡ heard.old.items ++ Makes (record { 0 = a.0 }) (steps.Open a line.size (record { 0 = a.0 })) ∷ Tells
+    ensures { OnOk result (heard.new.items ≡ heard.old.items ++ Makes (record { 0 = a.0 }) (own_opening a line.size) ∷ Tells
         (frame_line a.0 octets.now) ∷ []) }
 {
     let writer = ActorNo(a.0);
@@ -83,6 +82,7 @@ fn connect(
         a,
         size: line.size,
         writer,
+        owner: Owner::of(a),
     };
     heard.push(Heard::Makes(writer, open))?;
     answer(alloc, a, octets, heard)

@@ -28,7 +28,7 @@ use record_values::{Found, settings_of, shape};
 use run_record::{Kind, LineView, OpenForm, PairsView};
 use std::alloc::{AllocError, Global};
 use std::mem::replace;
-use sv_base::{ActorNo, AssocNo, Moment};
+use sv_base::{ActorNo, AssocNo, Moment, Owner};
 use text_words::hex_octets;
 
 /// What a line tells, where a step stands in the slot that was lent, and the parts of a piece in the list.
@@ -68,7 +68,16 @@ fn open_shut(model: &Model, a: AssocNo, asked: OpenForm, step: &mut Step) -> Tol
         OpenForm::Mms(size) => size,
         OpenForm::Wire => return Told::Nothing,
     };
-    put(step, Step::Open { a, size, writer });
+    let owner = Owner::of(a);
+    put(
+        step,
+        Step::Open {
+            a,
+            size,
+            writer,
+            owner,
+        },
+    );
     Told::Step(writer)
 }
 

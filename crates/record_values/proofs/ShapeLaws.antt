@@ -10,7 +10,7 @@ use Rattle.text_words.specs.Words.{behind}
 use Rattle.text_words.specs.Numbers.{number_at, int_at}
 use Rattle.text_words.specs.Values.{read_as, truth_at, is_graphic, is_binary, hex_at}
 use Rattle.object_model.specs.Fits.{is_sound}
-use Rattle.record_values.specs.Shapes.{is_bits, bits_of, signed_of, number_of, text_of, marked_at, truth_or, shape_at}
+use Rattle.record_values.specs.Shapes.{is_bits, is_int, bits_of, integer_of, signed_of, number_of, text_of, marked_at, truth_or, shape_at}
 use Rattle.text_values.proofs.ValueLaws.{sound}
 
 sound-read : {A : Type 0} (kind : A → Value) → ((a : A) → is_sound (kind a) ≡ true) → (o : Option A) (v : Value) → read_as kind o ≡ Some v → is_sound v ≡ true
@@ -29,21 +29,25 @@ sound-text octets v h = by (list_all is_graphic octets) refl h where
   by true e h = let same : values.Text octets ≡ v = cc in ap is_sound (sym same) ∙ sound (types.Text (length octets)) (values.Text octets) (omega arith, e)
   by false e h = absurd cc
 
-sound-number : (word : List ℕ) (v : Value) → number_of word ≡ Some v → is_sound v ≡ true
-sound-number word v h = by (behind (codes "-") word) h where
-  by : (o : Option (List ℕ)) → signed_of word o ≡ Some v → is_sound v ≡ true
-  by None h = sound-read values.Uint (λ n. refl) (number_at word) v h
-  by (Some digits) h = sound-read values.Int (λ z. refl) (int_at 64 word) v h
+sound-integer : (word : List ℕ) (v : Value) → integer_of word ≡ Some v → is_sound v ≡ true
+sound-integer word v h = sound-read values.Int (λ z. refl) (int_at 64 word) v h
+
+sound-number : (comp : Comp) (word : List ℕ) (v : Value) → number_of comp word ≡ Some v → is_sound v ≡ true
+sound-number comp word v h = by (is_int comp) (behind (codes "-") word) h where
+  by : (b : Bool) (o : Option (List ℕ)) → (if b then integer_of word else signed_of word o) ≡ Some v → is_sound v ≡ true
+  by true o h = sound-integer word v h
+  by false None h = sound-read values.Uint (λ n. refl) (number_at word) v h
+  by false (Some digits) h = sound-integer word v h
 
 sound-marked : (comp : Comp) (word : List ℕ) (v : Value) → marked_at comp word ≡ Some v → is_sound v ≡ true
 unfolding marked_at
 sound-marked comp [] v h = absurd cc
 sound-marked comp (mark ∷ octets) v h = by (mark == 39) (mark == 120) (is_bits comp) h where
-  by : (a b c : Bool) → (if a then text_of octets else if b then read_as values.Octets (hex_at octets) else if c then bits_of (mark ∷ octets) else number_of (mark ∷ octets)) ≡ Some v → is_sound v ≡ true
+  by : (a b c : Bool) → (if a then text_of octets else if b then read_as values.Octets (hex_at octets) else if c then bits_of (mark ∷ octets) else number_of comp (mark ∷ octets)) ≡ Some v → is_sound v ≡ true
   by true b c h = sound-text octets v h
   by false true c h = sound-read values.Octets (λ o. refl) (hex_at octets) v h
   by false false true h = sound-bits (mark ∷ octets) v h
-  by false false false h = sound-number (mark ∷ octets) v h
+  by false false false h = sound-number comp (mark ∷ octets) v h
 
 pub sound-shape : (comp : Comp) (word : List ℕ) (v : Value) → shape_at comp word ≡ Some v → is_sound v ≡ true
 unfolding shape_at

@@ -1,8 +1,9 @@
 -- Values of lines, as they are read.
 use Rattle.std.proofs.Common.{◌≡◌, ◌∷◌, [], refl}
-use Rattle.std.specs.Prelude.{codes, None, Some, true, false}
+use Rattle.std.specs.Prelude.{codes, pos, None, Some, true, false}
 use Rattle.sv_base.specs.declared.value.Value.TheVariants as values
 use Rattle.sv_base.specs.declared.components.Comp.TheVariants as comps
+use Rattle.text_words.specs.Numbers.{number_at}
 use Rattle.record_values.specs.Shapes.{marked_at, shape_at}
 
 -- values by their shapes
@@ -25,3 +26,11 @@ odd = refl
 bits : shape_at comps.TrgOps (codes "01") ≡ Some (values.Bits (false ∷ true ∷ []))
 unfolding shape_at marked_at
 bits = refl
+
+seconds : shape_at comps.ResvTms (codes "5") ≡ Some (values.Int (pos 5))
+unfolding shape_at marked_at number_at
+seconds = refl
+
+unsigned : shape_at comps.BufTm (codes "5") ≡ Some (values.Uint 5)
+unfolding shape_at marked_at number_at
+unsigned = refl

@@ -2,7 +2,7 @@
 
 ghost use Rattle.std.specs.Prelude.{◌≡◌, IfOk, codes, option_copied};
 ghost use Rattle.text_words.specs.Words.{behind};
-ghost use Rattle.record_values.specs.Shapes.{is_bits as is_bit_string, bits_of, number_of, text_of, marked_at, shape_at};
+ghost use Rattle.record_values.specs.Shapes.{is_bits as is_bit_string, is_int as is_integer, bits_of, integer_of, number_of, text_of, marked_at, shape_at};
 
 use bay_model::Comp;
 use std::alloc::{AllocError, Global};
@@ -14,6 +14,13 @@ fn is_bits(comp: Comp) -> bool
     ensures { result ≡ is_bit_string comp }
 {
     matches!(comp.kind(), TypeOf::Bits(_))
+}
+
+/// The component is a signed number.
+fn is_int(comp: Comp) -> bool
+    ensures { result ≡ is_integer comp }
+{
+    matches!(comp.kind(), TypeOf::Int(_))
 }
 
 /// Digits 0 and 1, the first bit first.
@@ -33,13 +40,23 @@ fn after_minus(word: &[u8]) -> Option<&[u8]>
     word.strip_prefix(b"-".as_slice())
 }
 
-/// A number without a sign, or a signed one where it has `-`.
+/// A signed number, with or without `-`.
 #[tactic(auto, unfolding(text_words::specs::Values::value_at))]
-fn number(alloc: Global, word: &[u8]) -> Result<Option<Value>, AllocError>
-    ensures { IfOk result (λ r. r ≡ number_of word.now) }
+fn integer(alloc: Global, word: &[u8]) -> Result<Option<Value>, AllocError>
+    ensures { IfOk result (λ r. r ≡ integer_of word.now) }
 {
+    text_words::value(alloc, &TypeOf::Int(64), word)
+}
+
+/// The number of a component: a signed one where its type is, else one without a sign, or a signed one where it has `-`.
+fn number(alloc: Global, comp: Comp, word: &[u8]) -> Result<Option<Value>, AllocError>
+    ensures { IfOk result (λ r. r ≡ number_of comp word.now) }
+{
+    if is_int(comp) {
+        return integer(alloc, word);
+    }
     match after_minus(word) {
-        Some(_) => text_words::value(alloc, &TypeOf::Int(64), word),
+        Some(_) => integer(alloc, word),
         None => Ok(text_words::number(word).map(Value::Uint)),
     }
 }
@@ -70,14 +87,14 @@ fn marked(alloc: Global, comp: Comp, word: &[u8]) -> Result<Option<Value>, Alloc
             if is_bits(comp) {
                 bits(alloc, word)
             } else {
-                number(alloc, word)
+                number(alloc, comp, word)
             }
         }
     }
 }
 
 /// The value that a text has for a component: `T` or `F`, `'` and a text, `x` and octets in lower-case hexadecimal; else the
-/// bits of a component that is a bit string, and the number of any other one.
+/// bits of a component that is a bit string, a signed number of one that is, and the number of any other one.
 #[tactic(auto, unfolding(crate::specs::Shapes::shape_at))]
 pub fn shape(alloc: Global, comp: Comp, word: &[u8]) -> Result<Option<Value>, AllocError>
     ensures { IfOk result (λ r. r ≡ shape_at comp word.now) }

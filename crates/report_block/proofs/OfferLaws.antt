@@ -7,6 +7,7 @@ use Rattle.std.proofs.lemmas.Bool.Decides.{leb_tells}
 use Rattle.std.proofs.lemmas.Option.{slice_get-map}
 use Rattle.list_laws.proofs.Places.{slice_get-drop, all-at}
 use Rattle.sv_base.specs.declared.numbers.AssocNo.{AssocNo}
+use Rattle.brcb_state.specs.declared.block.Holder.{Holder}
 use Rattle.bay_model.specs.Model.{Model, Block}
 use Rattle.bay_model.specs.Points.{Past}
 use Rattle.bay_model.specs.Entries.{Entry, selected}
@@ -52,7 +53,7 @@ entry-found r es n entries newest above within =
       both (inr a) x = absurd (omega (arith, a.1, above))
       both (inl a) (inr b) = absurd (omega (arith, b.1, newest, within))
 
-enabled-same : (a : AssocNo) (kept : Option AssocNo) (e : Option ℕ) → option_map (λ (a : AssocNo). a.0) kept ≡ e → is_by a kept ≡ option_map_or (λ e. e == a.0) e false
+enabled-same : (a : AssocNo) (kept : Option Holder) (e : Option ℕ) → option_map (λ (h : Holder). h.by.0) kept ≡ e → is_by a kept ≡ option_map_or (λ e. e == a.0) e false
 enabled-same a None e h = ap (λ e. option_map_or (λ e. e == a.0) e false) h
 enabled-same a (Some x) e h = ap (λ e. option_map_or (λ e. e == a.0) e false) h
 

@@ -50,7 +50,7 @@ module _ (was now step : ℕ) (all : List Piece) (part : ReportBlock) where
 
 -- ---- an event
 
-pub event-came : (b : ℕ) (d : Deed) (now step : ℕ) (ps : List Piece) (part : ReportBlock) → after_deed b d part.ring.front part.block ≡ part.block → came b d now step (noting ps) part ≡ after_noting now step ps part
+pub event-came : (b : ℕ) (d : Deed) (now step : ℕ) (ps : List Piece) (part : ReportBlock) → after_deed b d part.ring.front now [] part.block ≡ part.block → came b d now step (noting ps) part ≡ after_noting now step ps part
 event-came b d now step ps part same =
     ap₂ (λ (x : Block) (bs : List Body). record part { block = x; ring = after_bodies part.ring bs; window = after_note now ps part.window }) same (append-nil (body_of step (closed_at_note now ps part.window)))
 
@@ -97,9 +97,9 @@ module _ (now step : ℕ) (all : List Piece) (part : ReportBlock) where
       is ∙ (ap (λ (x : ReportBlock). record x { window = empty_window x.window.members x.block.options.buf_tm }) (kept ∙ ap (λ (x : ReportBlock). record x { ring = after_bodies x.ring (body_at now step all ∷ []) }) shut)
       ∙ ap (λ x. record part { window = empty_window part.window.members part.block.options.buf_tm; ring = x }) (sym (after-append part.ring (body_of step part.window.gathered) (body_at now step all ∷ []))))
 
-pub write-came : (b : ℕ) (a : AssocNo) (comp : Comp) (v : Value) (named : Option ℕ) (now step : ℕ) (all : List Piece) (part : ReportBlock) (e : Effect)
-    → record (came b (wrote a.0 b comp v) now step (coming_by all e) part) { set = set_after comp named part.set } ≡ after_writing a comp v named now step all part (Ok e)
-write-came b a comp v named now step all part e = ap (λ (x : Block). record (brought now step all e (record part { block = x })) { set = set_after comp named part.set }) own
+pub write-came : (b : ℕ) (a : AssocNo) (owner : List ℕ) (comp : Comp) (v : Value) (named : Option ℕ) (now step : ℕ) (all : List Piece) (part : ReportBlock) (e : Effect)
+    → record (came b (wrote a.0 b comp v) now step (coming_by all owner e) part) { set = set_after comp named part.set } ≡ after_writing a owner comp v named now step all part (Ok e)
+write-came b a owner comp v named now step all part e = ap (λ (x : Block). record (brought now step all e (record part { block = x })) { set = set_after comp named part.set }) own
   where
-    own : after_deed b (wrote a.0 b comp v) part.ring.front part.block ≡ written a comp v part.ring.front part.block
-    own = ap (λ t. if t then written a comp v part.ring.front part.block else part.block) (eq-eqb b b refl)
+    own : after_deed b (wrote a.0 b comp v) part.ring.front now owner part.block ≡ written a owner now comp v part.ring.front part.block
+    own = ap (λ t. if t then written a owner now comp v part.ring.front part.block else part.block) (eq-eqb b b refl)

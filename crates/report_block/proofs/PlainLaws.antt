@@ -15,9 +15,10 @@ use Rattle.bay_model.specs.Parameters.{is_interrogation, purges}
 use Rattle.bay_model.specs.Notes.{note, all_members, no_reason}
 use Rattle.bay_model.specs.Breaks.{cuts}
 use Rattle.bay_model.specs.Retained.{kept_octets_of}
+use Rattle.bay_model.specs.Associations.{address}
 use Rattle.bay_model.specs.Singles.{arrival}
 use Rattle.brcb_state.specs.Changes.{effect_of}
-use Rattle.brcb_state.specs.Standing.{Stands as AttributesStand, after_deed, is_general, is_purging, is_change, Tells}
+use Rattle.brcb_state.specs.Standing.{Stands as AttributesStand, after_deed, writers_address, OpensNoEnabler, is_general, is_purging, is_change, Tells}
 use Rattle.brcb_state.specs.declared.block.Block.{Block}
 use Rattle.brcb_state.specs.declared.told.Effect.{Effect}
 use Rattle.value_store.specs.Stored.{Stored}
@@ -33,7 +34,7 @@ use Rattle.report_block.specs.Events.{pieces_of, with_note}
 use Rattle.report_block.specs.Writes.{set_after}
 use Rattle.report_block.specs.Components.{after_writing, coming_by}
 use Rattle.report_block.proofs.PassLaws.{write-came}
-use Rattle.report_block.proofs.StandLaws.{deed-stands, before-arrival}
+use Rattle.report_block.proofs.StandLaws.{deed-stands}
 use Rattle.list_laws.proofs.Truths.{never as off, or-right, or-left}
 
 none-kept : AreOf [] []
@@ -41,9 +42,11 @@ none-kept = record { are = refl; readable = All-nil IsMemberKept }
 
 module _ (c : Model) (b m n : ℕ) (before : Past) (part : ReportBlock) where
   -- what a deed doesn't touch it leaves as it is
-  pub left-alone : (d : Deed) → note c b (at n m d) before ≡ [] → cuts c b d before ≡ false → Stands part c b (arrival n m ∷ before)
-      → Stands (record part { block = after_deed b d part.ring.front part.block }) c b (at n m d ∷ before)
-  left-alone d none plain s = deed-stands c b m n d before part untouched s (record {
+  pub left-alone : (d : Deed) → [] ≡ writers_address d before → OpensNoEnabler b d before → note c b (at n m d) before ≡ [] → cuts c b d before ≡ false → Stands part c b (arrival n m ∷ before)
+      → Stands (record part { block = after_deed b d part.ring.front (max m (now before)) [] part.block }) c b (at n m d ∷ before)
+  left-alone d from opens none plain s = deed-stands c b m n d before part untouched s (record {
+    address = from;
+    opens = opens;
     note = subst (AreOf []) (sym none) none-kept;
     general = sym (or-left (is_interrogation b d) (purges c b d before) plain);
     all = λ is. off (sym (or-left (is_interrogation b d) (purges c b d before) plain) ∙ is);
@@ -73,7 +76,7 @@ module _ (b moment n : ℕ) (settings : List Setting) (stored : List Stored) (sh
 
 -- ---- a write
 
-tells : (c : Model) (a : AssocNo) (b : ℕ) (comp : Comp) (v : Value) (n m : ℕ) (before : Past) (s : Block) → AttributesStand s c b before → Tells (effect_of comp v s) c b (at n m (wrote a.0 b comp v)) before
+tells : (c : Model) (a : AssocNo) (b : ℕ) (comp : Comp) (v : Value) (n m : ℕ) (before : Past) (s : Block) → AttributesStand s c b (arrival n m ∷ before) → Tells (effect_of comp v s) c b (at n m (wrote a.0 b comp v)) before
 tells c a b comp v n m before s st = search rules
 
 -- the number of its data set is no part of what a block stands for
@@ -81,15 +84,17 @@ with-set : (part : ReportBlock) (set : Option ℕ) (c : Model) (b : ℕ) (past :
 with-set part set c b past s = record { block = s.block; ring = s.ring; window = s.window; origin = s.origin; readable = s.readable; group = s.group }
 
 -- an accepted write of any component; these are all members, with their values, where it is a general interrogation
-pub write-any-stands : (c : Model) (b m n : ℕ) (before : Past) (part : ReportBlock) (a : AssocNo) (comp : Comp) (v : Value) (named : Option ℕ) (e : Effect) (all : List Piece) → e ≡ effect_of comp v part.block
+pub write-any-stands : (c : Model) (b m n : ℕ) (before : Past) (part : ReportBlock) (a : AssocNo) (owner : List ℕ) (comp : Comp) (v : Value) (named : Option ℕ) (e : Effect) (all : List Piece) → owner ≡ address a.0 before → e ≡ effect_of comp v part.block
     → (is_interrogation b (wrote a.0 b comp v) ≡ true → AreOf all (all_members c b (record no_reason { gi = true }) before (at n m (wrote a.0 b comp v) ∷ before)))
-    → Stands part c b (arrival n m ∷ before) → Stands (after_writing a comp v named (max m (now before)) n all part (Ok e)) c b (at n m (wrote a.0 b comp v) ∷ before)
-write-any-stands c b m n before part a comp v named e all is members s =
+    → Stands part c b (arrival n m ∷ before) → Stands (after_writing a owner comp v named (max m (now before)) n all part (Ok e)) c b (at n m (wrote a.0 b comp v) ∷ before)
+write-any-stands c b m n before part a owner comp v named e all from is members s =
     let d = wrote a.0 b comp v in
-    let t = tells c a b comp v n m before part.block (before-arrival c b m n before part.block s.block) in
-    subst (λ x. Stands x c b (at n m d ∷ before)) (write-came b a comp v named (max m (now before)) n all part e)
-    (with-set (came b d (max m (now before)) n (coming_by all e) part) (set_after comp named part.set) c b (at n m d ∷ before)
-    (deed-stands c b m n d before part (coming_by all e) s (record {
+    let t = tells c a b comp v n m before part.block s.block in
+    subst (λ x. Stands x c b (at n m d ∷ before)) (write-came b a owner comp v named (max m (now before)) n all part e)
+    (with-set (came b d (max m (now before)) n (coming_by all owner e) part) (set_after comp named part.set) c b (at n m d ∷ before)
+    (deed-stands c b m n d before part (coming_by all owner e) s (record {
+      address = from;
+      opens = tt;
       note = none-kept;
       general = ap is_general is ∙ t.general;
       all = members;

@@ -18,6 +18,7 @@ use Rattle.brcb_state.specs.declared.told.Retained.{Retained}
 use Rattle.brcb_state.specs.Components.{read_of}
 use Rattle.brcb_state.specs.Standing.{Stands as AttributesStand, kept_at, newest_of}
 use Rattle.brcb_state.proofs.ReadLaws.{reads}
+use Rattle.brcb_state.proofs.WriteLaws.{stands-arrived}
 use Rattle.entry_ring.specs.Standing.{newest_moment}
 use Rattle.entry_ring.proofs.HoldLaws.{newest-last}
 use Rattle.window_core.specs.Windows.{Gathered, Windowed, is_over as is_over_at, over_at}
@@ -166,28 +167,30 @@ is-dated c b past part s le = subst IsDated (sym s.window.gathered) (dated (now 
 
 -- ---- the component
 
-only-count : (comp : Comp) (k j : Retained) (x : Option ℕ) (s : Block) → k.len ≡ j.len → read_of comp k x s ≡ read_of comp j x s
-only-count comps.EntryID k j x s h = ap (λ l. read_of comps.EntryID (record { front = 0; len = l }) x s) h
-only-count comps.RptID k j x s h = refl
-only-count comps.RptEna k j x s h = refl
-only-count comps.DatSet k j x s h = refl
-only-count comps.ConfRev k j x s h = refl
-only-count comps.OptFlds k j x s h = refl
-only-count comps.BufTm k j x s h = refl
-only-count comps.SqNum k j x s h = refl
-only-count comps.TrgOps k j x s h = refl
-only-count comps.IntgPd k j x s h = refl
-only-count comps.GI k j x s h = refl
-only-count comps.PurgeBuf k j x s h = refl
-only-count comps.TimeofEntry k j x s h = refl
+only-count : (comp : Comp) (k j : Retained) (x : Option ℕ) (t : ℕ) (s : Block) → k.len ≡ j.len → read_of comp k x t s ≡ read_of comp j x t s
+only-count comps.EntryID k j x t s h = ap (λ l. read_of comps.EntryID (record { front = 0; len = l }) x t s) h
+only-count comps.RptID k j x t s h = refl
+only-count comps.RptEna k j x t s h = refl
+only-count comps.DatSet k j x t s h = refl
+only-count comps.ConfRev k j x t s h = refl
+only-count comps.OptFlds k j x t s h = refl
+only-count comps.BufTm k j x t s h = refl
+only-count comps.SqNum k j x t s h = refl
+only-count comps.TrgOps k j x t s h = refl
+only-count comps.IntgPd k j x t s h = refl
+only-count comps.GI k j x t s h = refl
+only-count comps.PurgeBuf k j x t s h = refl
+only-count comps.TimeofEntry k j x t s h = refl
+only-count comps.ResvTms k j x t s h = refl
+only-count comps.Owner k j x t s h = refl
 
 pub reads-ahead : (c : Model) (b m n : ℕ) (comp : Comp) (before : Past) (part : ReportBlock) → Stands part c b before → now before ≤ 4294967295999
     → reading (now before) (max m (now before)) comp part ≡ read_component c b comp (arrival n m ∷ before)
 reads-ahead c b m n comp before part s le =
     let is = foretold-told c b m n before part s (is-dated c b before part s le) in
-    let here : AttributesStand part.block c b (arrival n m ∷ before) = record { reference = s.block.reference; options = s.block.options; revision = s.block.revision; enabler = s.block.enabler; cursor = s.block.cursor; count = s.block.count } in
-    only-count comp (record { front = part.ring.front; len = (foretold (now before) (max m (now before)) part).count }) (kept_at c b (arrival n m ∷ before)) (foretold (now before) (max m (now before)) part).moment part.block (ap (λ (w : Newest). w.count) is)
-    ∙ (ap (λ x. read_of comp (kept_at c b (arrival n m ∷ before)) x part.block) (ap (λ (w : Newest). w.moment) is ∙ same-newest (selected c b (arrival n m ∷ before)))
+    let here : AttributesStand part.block c b (arrival n m ∷ before) = stands-arrived c b m n before part.block s.block in
+    only-count comp (record { front = part.ring.front; len = (foretold (now before) (max m (now before)) part).count }) (kept_at c b (arrival n m ∷ before)) (foretold (now before) (max m (now before)) part).moment (max m (now before)) part.block (ap (λ (w : Newest). w.count) is)
+    ∙ (ap (λ x. read_of comp (kept_at c b (arrival n m ∷ before)) x (max m (now before)) part.block) (ap (λ (w : Newest). w.moment) is ∙ same-newest (selected c b (arrival n m ∷ before)))
     ∙ reads c b comp (arrival n m ∷ before) part.block here)
 
 -- at moments that are told so

@@ -24,9 +24,10 @@ use Rattle.bay_model.specs.Singles.{arrival}
 use Rattle.bay_model.proofs.Again.{selected-again, open_group-again}
 use Rattle.bay_model.proofs.OpenGroup.{open_group-quiet, open_group-event}
 use Rattle.brcb_state.specs.Changes.{configured, written}
-use Rattle.brcb_state.specs.Standing.{Stands as AttributesStand, after_deed}
+use Rattle.bay_model.specs.Associations.{address}
+use Rattle.brcb_state.specs.Standing.{Stands as AttributesStand, after_deed, writers_address, OpensNoEnabler}
 use Rattle.brcb_state.specs.declared.block.Block.{Block}
-use Rattle.brcb_state.proofs.WriteLaws.{stands-written}
+use Rattle.brcb_state.proofs.WriteLaws.{stands-arrived, stands-wrote, stands-written, stands-deed}
 use Rattle.entry_ring.specs.Ringed.{Ringed, after_purge}
 use Rattle.entry_ring.specs.Standing.{Holds, after_all, empty as empty_ring}
 use Rattle.entry_ring.proofs.HoldLaws.{holds-opened, holds-point, holds-deed, holds-again}
@@ -48,7 +49,7 @@ use Rattle.list_laws.proofs.Places.{same-unless}
 pub opened : (c : Model) (b : ℕ) (part : ReportBlock) → part.block ≡ configured (block_of c b) → part.ring ≡ empty_ring (block_of c b).capacity
     → part.window ≡ empty_window part.window.members (block_of c b).initial.buf_tm → part.origin ≡ None → Stands part c b []
 opened c b part block ring window none = record {
-  block = subst (λ s. AttributesStand s c b []) (sym block) (record { reference = refl; options = refl; revision = refl; enabler = refl; cursor = refl; count = refl });
+  block = subst (λ s. AttributesStand s c b []) (sym block) (record { reference = refl; options = refl; revision = refl; owner = refl; enabler = refl; reservation = refl; seconds = tt; cursor = refl; count = refl });
   ring = subst (λ r. Holds r c b []) (sym ring) (holds-opened c b);
   window = subst (λ w. WindowStands w c b []) (sym window) (record { buf_tm = refl; gathered = refl; timed = tt; at_once = λ z. refl });
   origin = λ off. none;
@@ -117,7 +118,7 @@ module _ (c : Model) (b m n : ℕ) (before : Past) (part : ReportBlock) (all : L
   arrived-with : (w : Windowed) (bs : List Body) → WindowStands w c b (arrival n m ∷ before) → bs ≡ bodies (time_entries c b m n before) → All IsReadable (integrity_entry c b (arrival n m) before)
       → Stands (record part { window = w; ring = after_bodies part.ring bs; origin = origin_after (max m (now before)) part }) c b (arrival n m ∷ before)
   arrived-with w bs window are readable = record {
-    block = record { reference = s.block.reference; options = s.block.options; revision = s.block.revision; enabler = s.block.enabler; cursor = s.block.cursor; count = s.block.count };
+    block = stands-arrived c b m n before part.block s.block;
     ring = subst (λ r. Holds r c b (arrival n m ∷ before)) (sym (bodies-all part.ring (time_entries c b m n before)) ∙ ap (after_bodies part.ring) (sym are))
         (holds-point c b (arrival n m) before part.ring (time_entries c b m n before) s.ring (time-selected c b m n before));
     window = window;
@@ -151,25 +152,19 @@ module _ (c : Model) (b m n : ℕ) (before : Past) (part : ReportBlock) (all : L
 
 -- ---- the deed: the attributes
 
-point-told : (m : Model) (k : ℕ) (p : Point) (past : Past) (s : Block) → AttributesStand s m k past → AttributesStand (after_deed k p.deed (front m k (p ∷ past)) s) m k (p ∷ past)
-point-told m k p past s st = grind (arith, common_steps)
-
 module _ (c : Model) (b m n : ℕ) (before : Past) (s : Block) where
-  pub before-arrival : AttributesStand s c b (arrival n m ∷ before) → AttributesStand s c b before
-  before-arrival st = record { reference = st.reference; options = st.options; revision = st.revision; enabler = st.enabler; cursor = st.cursor; count = st.count }
-
-  pub attributes-stand : (d : Deed) (here : ℕ) → here ≡ front c b (arrival n m ∷ before) → AttributesStand s c b (arrival n m ∷ before) → AttributesStand (after_deed b d here s) c b (at n m d ∷ before)
-  attributes-stand (wrote a k comp v) here is st = either (eqb_tells k b)
+  pub attributes-stand : (d : Deed) (here : ℕ) (owner : List ℕ) → here ≡ front c b (arrival n m ∷ before) → owner ≡ writers_address d before → OpensNoEnabler b d before
+      → AttributesStand s c b (arrival n m ∷ before) → AttributesStand (after_deed b d here (max m (now before)) owner s) c b (at n m d ∷ before)
+  attributes-stand (wrote a k comp v) here owner is from opens st = either (eqb_tells k b)
     where
-      either : (((k == b) ≡ true) × (k ≡ b)) ⊎ (((k == b) ≡ false) × (k ≢ b)) → AttributesStand (after_deed b (wrote a k comp v) here s) c b (at n m (wrote a k comp v) ∷ before)
-      either (inl t) = subst (λ u. AttributesStand (if u then written (record { 0 = a }) comp v here s else s) c b (at n m (wrote a k comp v) ∷ before)) (sym t.0)
-          (subst (λ j. AttributesStand (written (record { 0 = a }) comp v here s) c b (at n m (wrote a j comp v) ∷ before)) (sym t.1)
-          (subst (λ f. AttributesStand (written (record { 0 = a }) comp v f s) c b (at n m (wrote a b comp v) ∷ before)) (sym is) (stands-written c (record { 0 = a }) b n m before comp v s (before-arrival st))))
-      either (inr t) =
-          let other : AttributesStand (after_deed b (wrote a k comp v) (front c b (at n m (wrote a k comp v) ∷ before)) s) c b (at n m (wrote a k comp v) ∷ before) = point-told c b (at n m (wrote a k comp v)) before s (before-arrival st) in
-          subst (λ u. AttributesStand (if u then written (record { 0 = a }) comp v here s else s) c b (at n m (wrote a k comp v) ∷ before)) (sym t.0)
-          (subst (λ u. AttributesStand (if u then written (record { 0 = a }) comp v (front c b (at n m (wrote a k comp v) ∷ before)) s else s) c b (at n m (wrote a k comp v) ∷ before)) t.0 other)
-  attributes-stand d here is st = point-told c b (at n m d) before s (before-arrival st)
+      either : (((k == b) ≡ true) × (k ≡ b)) ⊎ (((k == b) ≡ false) × (k ≢ b)) → AttributesStand (after_deed b (wrote a k comp v) here (max m (now before)) owner s) c b (at n m (wrote a k comp v) ∷ before)
+      either (inl t) = subst (λ u. AttributesStand (if u then written (record { 0 = a }) owner (max m (now before)) comp v here s else s) c b (at n m (wrote a k comp v) ∷ before)) (sym t.0)
+          (subst (λ j. AttributesStand (written (record { 0 = a }) owner (max m (now before)) comp v here s) c b (at n m (wrote a j comp v) ∷ before)) (sym t.1)
+          (subst (λ o. AttributesStand (written (record { 0 = a }) o (max m (now before)) comp v here s) c b (at n m (wrote a b comp v) ∷ before)) (sym from)
+          (subst (λ f. AttributesStand (written (record { 0 = a }) (address a before) (max m (now before)) comp v f s) c b (at n m (wrote a b comp v) ∷ before)) (sym is) (stands-written c (record { 0 = a }) b n m before comp v s st))))
+      either (inr t) = subst (λ u. AttributesStand (if u then written (record { 0 = a }) owner (max m (now before)) comp v here s else s) c b (at n m (wrote a k comp v) ∷ before)) (sym t.0)
+          (stands-wrote c a b k n m before comp v s st false t.0)
+  attributes-stand d here owner is from opens st = stands-deed c b n m d before s opens st
 
 period-still : (comp : Comp) (v : Value) (was : Parameters) → is_changed_by comp v was ≡ false → (written_to comp v was).intg_pd ≡ was.intg_pd
 period-still comps.RptID (kinds.Text t) was h = refl
@@ -309,8 +304,8 @@ pub deed-stands : (c : Model) (b m n : ℕ) (d : Deed) (before : Past) (part : R
     → Stands (came b d (max m (now before)) n k part) c b (at n m d ∷ before)
 deed-stands c b m n d before part k s told =
     let moment : ℕ = max m (now before) in
-    let block = attributes-stand c b m n before part.block d part.ring.front s.ring.front s.block in
-    let w = goes-all c b m n d before k told part.window s.window (after_deed b d part.ring.front part.block).options.buf_tm (ap (λ (o : Parameters). o.buf_tm) block.options) in
+    let block = attributes-stand c b m n before part.block d part.ring.front k.owner s.ring.front told.address told.opens s.block in
+    let w = goes-all c b m n d before k told part.window s.window (after_deed b d part.ring.front moment k.owner part.block).options.buf_tm (ap (λ (o : Parameters). o.buf_tm) block.options) in
     let es = deed_entries c b m n before d in
     record {
       block = block;
@@ -328,7 +323,7 @@ deed-stands c b m n d before part k s told =
 
 pub again-stands : (c : Model) (b m n : ℕ) (q : Point) (before : Past) (part : ReportBlock) → m ≤ now (q ∷ before) → Stands part c b (q ∷ before) → Stands part c b (arrival n m ∷ q ∷ before)
 again-stands c b m n q before part same s = record {
-  block = record { reference = s.block.reference; options = s.block.options; revision = s.block.revision; enabler = s.block.enabler; cursor = s.block.cursor; count = s.block.count };
+  block = stands-arrived c b m n (q ∷ before) part.block s.block;
   ring = holds-again c b m n q before part.ring same s.ring;
   window = (comes_again c b m n q before same part.window s.window).0;
   origin = s.origin;

@@ -7,7 +7,7 @@ use Rattle.bay_model.specs.Points.{Deed, Past}
 use Rattle.bay_model.specs.Parameters.{purges, is_purging_change, is_interrogation}
 use Rattle.bay_model.specs.Breaks.{is_period_over}
 use Rattle.bay_model.specs.Notes.{Kept, note, all_members, no_reason}
-use Rattle.brcb_state.specs.Standing.{after_deed}
+use Rattle.brcb_state.specs.Standing.{after_deed, writers_address, OpensNoEnabler}
 use Rattle.entry_ring.specs.Ringed.{Ringed, after_entry, after_purge}
 use Rattle.window_core.specs.Pieces.{Piece, octets_of}
 use Rattle.window_core.specs.Windows.{Gathered, Windowed, empty, closed, over_at, after_time, after_event, closed_by}
@@ -49,9 +49,10 @@ arrived was now step all part = arrived_if (is_due was now part) now step all pa
 
 -- ---- the deed
 
--- the members that it is an event of, and all members where it is a general interrogation; whether it is one, whether it purges
+-- the address of who wrote; the members that it is an event of, and all members where it is a general interrogation; whether it is one, whether it purges
 -- the buffer, and whether that is by a change of a parameter
 pub record Coming : Type 0 where
+  pub owner : List ℕ
   pub note : List Piece
   pub general : Bool
   pub all : List Piece
@@ -60,7 +61,7 @@ pub record Coming : Type 0 where
 
 -- it doesn't touch the block's entries
 abbrev pub untouched : Coming
-untouched = record { note = []; general = false; all = []; purge = false; change = false }
+untouched = record { owner = []; note = []; general = false; all = []; purge = false; change = false }
 
 -- an event of these members
 abbrev pub noting : List Piece → Coming
@@ -89,9 +90,9 @@ general_body now step k = if k.general then body_at now step k.all ∷ [] else [
 -- the deed d at the moment and the number of its step, for block b
 abbrev pub came : ℕ → Deed → ℕ → ℕ → Coming → ReportBlock → ReportBlock
 came b d now step k part = record part {
-  block = after_deed b d part.ring.front part.block;
+  block = after_deed b d part.ring.front now k.owner part.block;
   ring = purged_if k.purge (after_bodies part.ring (body_of step (closed_at (k.general || k.purge) now k.note part.window) ++ general_body now step k));
-  window = window_after (k.general || k.purge) now k.note (after_deed b d part.ring.front part.block).options.buf_tm part.window;
+  window = window_after (k.general || k.purge) now k.note (after_deed b d part.ring.front now k.owner part.block).options.buf_tm part.window;
   origin = if k.change then Some now else part.origin;
 }
 
@@ -102,6 +103,8 @@ pub record AreOf (ps : List Piece) (ks : List Kept) : Type 0 where
 
 -- what comes of deed d for block b is what the model says
 pub record IsComing (k : Coming) (c : Model) (b m n : ℕ) (d : Deed) (before : Past) : Type 0 where
+  pub address : k.owner ≡ writers_address d before
+  pub opens : OpensNoEnabler b d before
   pub note : AreOf k.note (note c b (at n m d) before)
   pub general : k.general ≡ is_interrogation b d
   pub all : is_interrogation b d ≡ true → AreOf k.all (all_members c b (record no_reason { gi = true }) before (at n m d ∷ before))

@@ -41,8 +41,8 @@ abbrev pub foretold : ℕ → ℕ → ReportBlock → Newest
 foretold was now part = foretold_if (is_due was now part) now part
 
 -- component comp, with so many entries
-abbrev pub read_with : Newest → Comp → ReportBlock → Value
-read_with w comp part = read_of comp (record { front = part.ring.front; len = w.count }) w.moment part.block
+abbrev pub read_with : Newest → Comp → ℕ → ReportBlock → Value
+read_with w comp now part = read_of comp (record { front = part.ring.front; len = w.count }) w.moment now part.block
 
 abbrev pub reading : ℕ → ℕ → Comp → ReportBlock → Value
-reading was now comp part = read_with (foretold was now part) comp part
+reading was now comp part = read_with (foretold was now part) comp now part

@@ -1,12 +1,12 @@
 -- What writes, reports and losses make of a block (IEC 61850-7-2, BRCB attributes).
-use Rattle.std.specs.Prelude.{ℕ, ◌-◌, nat_lt, [], Option, Some, is_some, Result, Ok, Err, if◌then◌else◌}
+use Rattle.std.specs.Prelude.{ℕ, ◌-◌, nat_lt, List, [], Option, Some, is_some, Result, Ok, Err, if◌then◌else◌}
 use Rattle.std.specs.Option.{option_map}
 use Rattle.sv_base.specs.declared.numbers.AssocNo.{AssocNo}
 use Rattle.sv_base.specs.declared.value.Value.{Value}
 use Rattle.sv_base.specs.declared.components.Comp.{Comp}
 use Rattle.sv_base.specs.declared.components.Comp.TheVariants as comps
 use Rattle.brcb_state.specs.Changes.{after_report, after_loss}
-use Rattle.brcb_state.specs.Refusals.{answer_to, names_nothing}
+use Rattle.brcb_state.specs.Refusals.{answer_to, is_foreign, names_nothing}
 use Rattle.brcb_state.specs.Standing.{is_purging, is_change}
 use Rattle.brcb_state.specs.declared.told.Effect.{Effect}
 use Rattle.window_core.specs.Standing.{body_of}
@@ -14,8 +14,8 @@ use Rattle.report_block.specs.declared.block.ReportBlock.{ReportBlock}
 use Rattle.report_block.specs.Coming.{after_bodies, purged_if, closed_at, window_after}
 use Rattle.report_block.specs.Offers.{retained_of}
 
-abbrev pub lost_by : AssocNo → ReportBlock → ReportBlock
-lost_by a part = record part { block = after_loss a part.block }
+abbrev pub lost_by : AssocNo → ℕ → ReportBlock → ReportBlock
+lost_by a now part = record part { block = after_loss a now part.block }
 
 -- the report of entry n was given
 abbrev pub reported_by : ℕ → ReportBlock → ReportBlock
@@ -38,8 +38,8 @@ abbrev pub renumbered : ℕ → ReportBlock → ReportBlock
 renumbered k part = record part { set = moved k part.set }
 
 -- what a write is answered
-abbrev pub write_answer : AssocNo → Comp → Value → Option ℕ → ReportBlock → Result Effect ℕ
-write_answer a comp v named part = answer_to a comp v (names_nothing (retained_of part) (is_some named) comp v) part.block
+abbrev pub write_answer : AssocNo → List ℕ → ℕ → Comp → Value → Option ℕ → ReportBlock → Result Effect ℕ
+write_answer a owner now comp v named part = answer_to a (is_foreign owner now part.block) comp v (names_nothing (retained_of part) (is_some named) comp v) part.block
 
 -- a block whose attributes are these by now, after an accepted write of this effect
 abbrev pub settled : ℕ → ℕ → Effect → ReportBlock → ReportBlock

@@ -224,10 +224,11 @@ impl ReportBlock {
     }
 
     /// An association was lost: what it has enabled it enables no longer.
-    pub fn lost(&mut self, a: AssocNo)
-        ensures { self.new ≡ lost_by a self.old }
+    pub fn lost(&mut self, a: AssocNo, now: Moment)
+        requires { (1 ≤ a.0) × (a.0 ≤ 64) }
+        ensures { self.new ≡ lost_by a now self.old }
     {
-        self.block.lost(a);
+        self.block.lost(a, now);
     }
 
     /// The entry of this number was reported.

@@ -5,7 +5,7 @@ use bay_model::{Comp, Reasons};
 use bay_rooms::Fixed;
 use brcb_state::Effect;
 use set_view::SetView;
-use sv_base::{AssocNo, Moment, Value};
+use sv_base::{AssocNo, Moment, Owner, Value};
 use value_store::Store;
 
 /// The reason of the entry of a general interrogation.
@@ -17,10 +17,11 @@ const GENERAL: Reasons = Reasons {
     gi: true,
 };
 
-/// A write of a component by an association; where that is DatSet, with the number of the data set that the value names.
+/// A write of a component by an association of this address; where that is DatSet, with the number of the data set that the value names.
 #[derive(Clone, Copy, Debug)]
 pub struct Written<'a> {
     pub by: AssocNo,
+    pub owner: Owner,
     pub comp: Comp,
     pub value: &'a Value,
     pub named: Option<usize>,
@@ -101,22 +102,27 @@ impl ReportBlock {
         step: u64,
         octets: &mut Fixed,
     ) -> Result<(), u8>
+        requires number { (1 ≤ written.now.by.0) × (written.now.by.0 ≤ 64) }
         requires few { length set.now ≤ 256 }
         requires members { All (IsWritable store.now) set.now }
         requires room { 504 * length set.now ≤ octets.old.room }
         requires window { 504 * self.old.window.members ≤ octets.old.room }
-        ensures answer { result ≡ without_effect (any_answer written.now self.old) }
-        ensures written { self.new ≡ after_any written.now now step (all_pieces store.now set.now for_general) self.old (any_answer written.now self.old) }
+        ensures answer { result ≡ without_effect (any_answer written.now now self.old) }
+        ensures written { self.new ≡ after_any written.now now step (all_pieces store.now set.now for_general) self.old (any_answer written.now now self.old) }
         ensures room { octets.new.room ≡ octets.old.room }
     {
         let Written {
             by,
+            owner,
             comp,
             value,
             ..
         } = *written;
         let (retained, known) = (self.retained(), written.named.is_some());
-        match self.block.write(by, comp, value, retained, known) {
+        match self
+            .block
+            .write(by, &owner, now, comp, value, retained, known)
+        {
             Ok(effect) => {
                 self.bring(effect, store, set, now, step, octets);
                 self.set = set_after(comp, written.named, self.set);

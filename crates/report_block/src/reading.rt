@@ -106,6 +106,6 @@ impl ReportBlock {
             front: self.ring.front(),
             len: newest.count,
         };
-        self.block.read(alloc, comp, kept, newest.moment)
+        self.block.read(alloc, comp, kept, newest.moment, now)
     }
 }

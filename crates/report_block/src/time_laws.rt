@@ -1,7 +1,7 @@
 //! What the calls make of a report block is what comes of a point, and time brings nothing before its moment. The functions run
 //! nothing: their contracts are laws.
 
-ghost use Rattle.std.specs.Prelude.{◌≡◌, ◌≤◌, ℕ, List, Ok};
+ghost use Rattle.std.specs.Prelude.{◌≡◌, ◌≤◌, ℕ, List, [], Ok};
 ghost use Rattle.bay_model.specs.Points.{Deed, wrote};
 ghost use Rattle.brcb_state.specs.Standing.{after_deed};
 ghost use Rattle.brcb_state.specs.declared.told.Effect.{Effect};
@@ -18,9 +18,9 @@ ghost use Rattle.report_block.specs.Events.{after_noting};
 /// what comes of it with its effect, and the number of the data set that a written DatSet names.
 pub fn calls_are_what_comes()
     ensures event { (b : ℕ) (d : Deed) (now step : ℕ) (ps : List Piece) (part : ReportBlock)
-        → after_deed b d part.ring.front part.block ≡ part.block → came b d now step (noting ps) part ≡ after_noting now step ps part }
+        → after_deed b d part.ring.front now [] part.block ≡ part.block → came b d now step (noting ps) part ≡ after_noting now step ps part }
     ensures write { (b : ℕ) (w : Written) (now step : ℕ) (all : List Piece) (part : ReportBlock) (e : Effect)
-        → record (came b (wrote w.by.0 b w.comp w.value.now) now step (coming_by all e) part) { set = set_after w.comp w.named part.set }
+        → record (came b (wrote w.by.0 b w.comp w.value.now) now step (coming_by all w.owner e) part) { set = set_after w.comp w.named part.set }
         ≡ after_any w now step all part (Ok e) }
 {}
 

@@ -21,10 +21,10 @@ use Rattle.run_record.specs.declared.line.RecLine.{RecLine}
 use Rattle.run_record.proofs.WordLaws.{not-skipped}
 use Rattle.run_record.proofs.ReadLaws.{line-read as record-line-read}
 use Rattle.run_record.proofs.ToldLaws.{line-told as record-line-told}
-use Rattle.script_lines.specs.declared.owner.Owner.TheVariants as owners
+use Rattle.script_lines.specs.declared.party.Party.TheVariants as parties
 use Rattle.script_lines.specs.declared.line.ScriptLine.{ScriptLine}
 use Rattle.script_lines.specs.declared.line.ScriptLine.TheVariants as scripts
-use Rattle.script_lines.specs.Lines.{owner_text, numbered_as, associated, mark_at, beside, script_line_at}
+use Rattle.script_lines.specs.Lines.{party_text, numbered_as, associated, mark_at, beside, script_line_at}
 use Rattle.script_lines.specs.Grammar.{SpellsScript}
 
 -- words of which the first one is no line's
@@ -43,7 +43,7 @@ unknown octet octets more short are none other =
 
 -- ---- a text that spells a line is read as it
 
-process-read : script_line_at (codes "script process") ≡ Ok (scripts.Begins owners.Process)
+process-read : script_line_at (codes "script process") ≡ Ok (scripts.Begins parties.Process)
 unfolding script_line_at mark_at line_at tell_at
 process-read = refl
 
@@ -57,21 +57,21 @@ unknown-association n few =
     (omega (arith, few, length-decimal-le_succ n (omega (arith, few))))
     ((omega arith, refl), ((omega arith, refl), (decimal-word n (omega (arith, few)), tt))) refl refl
 
-marked : (n : ℕ) → 1 ≤ n → n ≤ 16 → mark_at (codes "script association" ++ 32 ∷ decimal n) ≡ Ok (scripts.Begins (owners.Association (record { 0 = n })))
+marked : (n : ℕ) → 1 ≤ n → n ≤ 16 → mark_at (codes "script association" ++ 32 ∷ decimal n) ≡ Ok (scripts.Begins (parties.Association (record { 0 = n })))
 unfolding mark_at
 marked n some few = ap (numbered_as (decimal n)) (number-within 1 16 n some few (omega (arith, few)))
 
-association-read : (a : AssocNo) → IsAssoc a → script_line_at (owner_text (owners.Association a)) ≡ Ok (scripts.Begins (owners.Association a))
+association-read : (a : AssocNo) → IsAssoc a → script_line_at (party_text (parties.Association a)) ≡ Ok (scripts.Begins (parties.Association a))
 unfolding script_line_at
-association-read a is = ap (beside (owner_text (owners.Association a))) (unknown-association a.0 is.1) ∙ marked a.0 is.0 is.1
+association-read a is = ap (beside (party_text (parties.Association a))) (unknown-association a.0 is.1) ∙ marked a.0 is.0 is.1
 
 step-read : (text : List ℕ) (line : RecLine) → Spells text line → script_line_at text ≡ Ok (scripts.Step line)
 unfolding script_line_at
 step-read text line s = ap (beside text) (record-line-read text line s)
 
 pub line-read : (text : List ℕ) (line : ScriptLine) → SpellsScript text line → script_line_at text ≡ Ok line
-line-read text (scripts.Begins (owners.Association a)) s = ap script_line_at s.1 ∙ association-read a s.0
-line-read text (scripts.Begins owners.Process) s = ap script_line_at s.1 ∙ process-read
+line-read text (scripts.Begins (parties.Association a)) s = ap script_line_at s.1 ∙ association-read a s.0
+line-read text (scripts.Begins parties.Process) s = ap script_line_at s.1 ∙ process-read
 line-read text scripts.Closes s = ap script_line_at s.1 ∙ close-read
 line-read text (scripts.Step line) s = step-read text line s
 
@@ -87,7 +87,7 @@ some_is false x y e = absurd (cc e)
 numbered-told : (text word : List ℕ) (line : ScriptLine) (n : Option ℕ) → number_within 1 16 word ≡ n → text ≡ codes "script association " ++ word → numbered_as word n ≡ Ok line → SpellsScript text line
 numbered-told text word line (Some m) found is told =
     let says = number-tells 1 16 word m found in
-    subst (SpellsScript text) (ok_is (scripts.Begins (owners.Association (record { 0 = m }))) line told) ((says.1, says.2), is ∙ ap (λ (w : List ℕ). codes "script association " ++ w) says.0)
+    subst (SpellsScript text) (ok_is (scripts.Begins (parties.Association (record { 0 = m }))) line told) ((says.1, says.2), is ∙ ap (λ (w : List ℕ). codes "script association " ++ w) says.0)
 numbered-told text word line None found is told = no (is_word word) told
   where
     no : (b : Bool) → cond b (Err kinds.Number) (Err kinds.Word) ≡ Ok line → SpellsScript text line
@@ -107,9 +107,9 @@ mark-told text line told = process (bytes_eq text (codes "script process")) refl
     close false is e = associated-told text line (behind (codes "script association ") text) refl e
 
     process : (b : Bool) → bytes_eq text (codes "script process") ≡ b
-        → cond b (Ok (scripts.Begins owners.Process)) (cond (bytes_eq text (codes "close")) (Ok scripts.Closes) (associated (behind (codes "script association ") text))) ≡ Ok line
+        → cond b (Ok (scripts.Begins parties.Process)) (cond (bytes_eq text (codes "close")) (Ok scripts.Closes) (associated (behind (codes "script association ") text))) ≡ Ok line
         → SpellsScript text line
-    process true is e = subst (SpellsScript text) (ok_is (scripts.Begins owners.Process) line e) (tt, (bytes_eq-Decides text (codes "script process")).0 is)
+    process true is e = subst (SpellsScript text) (ok_is (scripts.Begins parties.Process) line e) (tt, (bytes_eq-Decides text (codes "script process")).0 is)
     process false is e = close (bytes_eq text (codes "close")) refl e
 
 beside-told : (text : List ℕ) (line : ScriptLine) (r : Result RecLine Kind) → line_at text ≡ r → beside text r ≡ Ok line → SpellsScript text line

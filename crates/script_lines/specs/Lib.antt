@@ -1,5 +1,5 @@
 -- The lines of scripts.
-pub mod Owners
+pub mod Parties
 pub mod Lines
 pub mod Grammar
 pub mod Seen

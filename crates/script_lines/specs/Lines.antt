@@ -11,8 +11,8 @@ use Rattle.run_record.specs.Judging.{line_at}
 use Rattle.run_record.specs.declared.fault.Kind.{Kind}
 use Rattle.run_record.specs.declared.fault.Kind.TheVariants as kinds
 use Rattle.run_record.specs.declared.line.RecLine.{RecLine}
-use Rattle.script_lines.specs.declared.owner.Owner.{Owner}
-use Rattle.script_lines.specs.declared.owner.Owner.TheVariants as owners
+use Rattle.script_lines.specs.declared.party.Party.{Party}
+use Rattle.script_lines.specs.declared.party.Party.TheVariants as parties
 use Rattle.script_lines.specs.declared.line.ScriptLine.{ScriptLine}
 use Rattle.script_lines.specs.declared.line.ScriptLine.TheVariants as scripts
 
@@ -22,12 +22,12 @@ is_heading_text text = bytes_eq text (codes "rehearse 1")
 
 -- ---- spelling
 
-abbrev pub owner_text : Owner → List ℕ
-owner_text (owners.Association a) = codes "script association" ++ spaced (decimal a.0)
-owner_text owners.Process = codes "script process"
+abbrev pub party_text : Party → List ℕ
+party_text (parties.Association a) = codes "script association" ++ spaced (decimal a.0)
+party_text parties.Process = codes "script process"
 
 abbrev pub script_text : ScriptLine → List ℕ
-script_text (scripts.Begins owner) = owner_text owner
+script_text (scripts.Begins party) = party_text party
 script_text scripts.Closes = codes "close"
 script_text (scripts.Step line) = spelled line
 
@@ -40,7 +40,7 @@ script_line_text line = script_text line ++ 10 ∷ []
 -- the script of the association whose number the word is; a word that is no such number is refused as one, and no word, or more
 -- than one, as words
 abbrev pub numbered_as : List ℕ → Option ℕ → Result ScriptLine Kind
-numbered_as word (Some n) = Ok (scripts.Begins (owners.Association (record { 0 = n })))
+numbered_as word (Some n) = Ok (scripts.Begins (parties.Association (record { 0 = n })))
 numbered_as word None = if is_word word then Err kinds.Number else Err kinds.Word
 
 abbrev pub numbered : List ℕ → Result ScriptLine Kind
@@ -53,7 +53,7 @@ associated (Some word) = numbered word
 -- the line with which a script begins or ends
 unfoldable pub mark_at : List ℕ → Result ScriptLine Kind
 mark_at text =
-    if bytes_eq text (codes "script process") then Ok (scripts.Begins owners.Process)
+    if bytes_eq text (codes "script process") then Ok (scripts.Begins parties.Process)
     else if bytes_eq text (codes "close") then Ok scripts.Closes
     else associated (behind (codes "script association ") text)
 

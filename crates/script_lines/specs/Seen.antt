@@ -8,7 +8,7 @@ use Rattle.script_lines.specs.declared.line.ScriptView.{ScriptView}
 use Rattle.script_lines.specs.declared.line.ScriptView.TheVariants as views
 
 abbrev pub view_seen : ScriptView → ScriptLine
-view_seen (views.Begins owner) = scripts.Begins owner
+view_seen (views.Begins party) = scripts.Begins party
 view_seen views.Closes = scripts.Closes
 view_seen (views.Step line) = scripts.Step (line_seen line)
 

@@ -6,12 +6,12 @@
 
 mod laws;
 mod line;
-mod owner;
+mod party;
 mod reading;
 mod writing;
 
 // whose a script is, and which lines it may have
-pub use owner::Owner;
+pub use party::Party;
 
 // what a line tells
 pub use line::{ScriptLine, ScriptView};

@@ -1,13 +1,13 @@
 //! What a line among scripts tells.
 
-use crate::owner::Owner;
+use crate::party::Party;
 use run_record::{LineView, RecLine};
 
 /// What a line among scripts tells.
 #[derive(Debug, Drop)]
 pub enum ScriptLine {
     /// A script begins.
-    Begins(Owner),
+    Begins(Party),
     /// It ends.
     Closes,
     /// A line of a record.
@@ -17,7 +17,7 @@ pub enum ScriptLine {
 /// The same, with its words lent by the line's text.
 #[derive(Clone, Copy, Debug)]
 pub enum ScriptView<'a> {
-    Begins(Owner),
+    Begins(Party),
     Closes,
     Step(LineView<'a>),
 }

@@ -5,7 +5,7 @@ ghost use Rattle.script_lines.specs.Lines.{is_heading_text, numbered, mark_at, s
 ghost use Rattle.script_lines.specs.Seen.{script_seen};
 
 use crate::line::ScriptView;
-use crate::owner::Owner;
+use crate::party::Party;
 use run_record::{Kind, view_line};
 use sv_base::AssocNo;
 use text_words::{after_front, all_graphic, number_between};
@@ -22,7 +22,7 @@ fn association_script(word: &[u8]) -> Result<ScriptView<'_>, Kind>
     ensures { script_seen result ≡ numbered word.now }
 {
     match number_between(word, 1, 16) {
-        Some(a) => Ok(ScriptView::Begins(Owner::Association(AssocNo(a)))),
+        Some(a) => Ok(ScriptView::Begins(Party::Association(AssocNo(a)))),
         None if !word.is_empty() && all_graphic(word) => Err(Kind::Number),
         None => Err(Kind::Word),
     }
@@ -34,7 +34,7 @@ fn mark(line: &[u8]) -> Result<ScriptView<'_>, Kind>
     ensures { script_seen result ≡ mark_at line.now }
 {
     if line == b"script process".as_slice() {
-        return Ok(ScriptView::Begins(Owner::Process));
+        return Ok(ScriptView::Begins(Party::Process));
     }
     if line == b"close".as_slice() {
         return Ok(ScriptView::Closes);

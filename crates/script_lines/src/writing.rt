@@ -1,25 +1,25 @@
 //! A line among scripts is written.
 
 ghost use Rattle.std.specs.Prelude.{◌≡◌, ◌++◌, length, take, OnOk, OnErr};
-ghost use Rattle.script_lines.specs.Lines.{owner_text, script_text, script_line_text};
+ghost use Rattle.script_lines.specs.Lines.{party_text, script_text, script_line_text};
 
 use crate::line::ScriptLine;
-use crate::owner::Owner;
+use crate::party::Party;
 use run_record::write_line;
 use std::alloc::AllocError;
 use text_words::push_number;
 
 /// Adds the line with which a script begins.
-fn push_owner(out: &mut Vec<u8>, owner: Owner) -> Result<(), AllocError>
-    ensures ok { OnOk result (out.new.items ≡ out.old.items ++ owner_text owner) }
+fn push_party(out: &mut Vec<u8>, party: Party) -> Result<(), AllocError>
+    ensures ok { OnOk result (out.new.items ≡ out.old.items ++ party_text party) }
     ensures err { OnErr result (take (length out.old.items) out.new.items ≡ out.old.items) }
 {
-    match owner {
-        Owner::Association(a) => {
+    match party {
+        Party::Association(a) => {
             out.extend_from_slice(b"script association")?;
             push_number(out, u64::from(a.0))
         }
-        Owner::Process => out.extend_from_slice(b"script process"),
+        Party::Process => out.extend_from_slice(b"script process"),
     }
 }
 
@@ -29,8 +29,8 @@ fn push_line(out: &mut Vec<u8>, line: &ScriptLine) -> Result<(), AllocError>
     ensures err { OnErr result (take (length out.old.items) out.new.items ≡ out.old.items) }
 {
     match line {
-        ScriptLine::Begins(owner) => {
-            push_owner(out, *owner)?;
+        ScriptLine::Begins(party) => {
+            push_party(out, *party)?;
             out.push(b'\n')?;
             Ok(())
         }

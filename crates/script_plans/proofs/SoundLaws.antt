@@ -30,11 +30,11 @@ use Rattle.record_steps.proofs.ToldLaws.{told-own}
 use Rattle.record_history.specs.Histories.{octets_of, form_after, form_at, onto}
 use Rattle.record_outcome.specs.Records.{limit, most_lines, NoNewline, pieces}
 use Rattle.record_laws.specs.Grammar.{IsInner, Each}
-use Rattle.script_lines.specs.Grammar.{IsOwner}
+use Rattle.script_lines.specs.Grammar.{IsParty}
 use Rattle.script_lines.specs.Lines.{script_line_at}
-use Rattle.script_lines.specs.Owners.{may_have}
-use Rattle.script_lines.specs.declared.owner.Owner.{Owner}
-use Rattle.script_lines.specs.declared.owner.Owner.TheVariants as owners
+use Rattle.script_lines.specs.Parties.{may_have}
+use Rattle.script_lines.specs.declared.party.Party.{Party}
+use Rattle.script_lines.specs.declared.party.Party.TheVariants as parties
 use Rattle.script_lines.specs.declared.line.ScriptLine.{ScriptLine}
 use Rattle.script_lines.specs.declared.line.ScriptLine.TheVariants as scripts
 use Rattle.run_record.proofs.ReadLaws.{line-read}
@@ -132,7 +132,7 @@ pub record GoodPlan (n : ℕ) (p : Plan) : Type 0 where
 
 pub record GoodOpened (n : ℕ) (c : Config) (o : Opened) : Type 0 where
   pub good : GoodScript n c o.actor o.script
-  pub actor : IsActor o.actor o.owner (onto [] (texts o.script.lines)) o.form
+  pub actor : IsActor o.actor o.party (onto [] (texts o.script.lines)) o.form
   pub early : 441763200000 ≤ o.moment
   pub late : o.moment ≤ 4294967295999
   pub fit : IsFit o.form
@@ -231,36 +231,36 @@ configuring-good n before text line none good = by (bytes_eq line (codes "end"))
 
 -- ---- between scripts
 
-process-few : (owner : Owner) (p : Plan) → p.processes ≤ p.count → processes_with p owner ≤ p.count + 1
-process-few (owners.Association a) p le = omega (arith, le)
-process-few owners.Process p le = omega (arith, le)
+process-few : (party : Party) (p : Plan) → p.processes ≤ p.count → processes_with p party ≤ p.count + 1
+process-few (parties.Association a) p le = omega (arith, le)
+process-few parties.Process p le = omega (arith, le)
 
-actor-some : (owner : Owner) (p : Plan) → IsOwner owner → 0 < actor_for p owner
-actor-some (owners.Association a) p is = omega (arith, is.0)
-actor-some owners.Process p is = omega arith
+actor-some : (party : Party) (p : Plan) → IsParty party → 0 < actor_for p party
+actor-some (parties.Association a) p is = omega (arith, is.0)
+actor-some parties.Process p is = omega arith
 
-actor-low : (owner : Owner) (p : Plan) → IsOwner owner → p.processes < 16 → actor_for p owner < 33
-actor-low (owners.Association a) p is low = omega (arith, is.1)
-actor-low owners.Process p is low = omega (arith, low)
+actor-low : (party : Party) (p : Plan) → IsParty party → p.processes < 16 → actor_for p party < 33
+actor-low (parties.Association a) p is low = omega (arith, is.1)
+actor-low parties.Process p is low = omega (arith, low)
 
-actor-is : (owner : Owner) (p : Plan) → IsActor (actor_for p owner) owner [] forms.Shut
-actor-is (owners.Association a) p = (refl, refl)
-actor-is owners.Process p = (omega arith, refl)
+actor-is : (party : Party) (p : Plan) → IsActor (actor_for p party) party [] forms.Shut
+actor-is (parties.Association a) p = (refl, refl)
+actor-is parties.Process p = (omega arith, refl)
 
-begins-good : (n number : ℕ) (p : Plan) (owner : Owner) → IsOwner owner → GoodPlan n p → GoodMove n (begins number p owner)
-begins-good n number p owner is good = by (p.count == most_scripts) refl (is_some (script_of p (actor_for p owner))) where
-  fresh : p.count < 16 → Good n (inside (counted p owner) (opened p owner))
+begins-good : (n number : ℕ) (p : Plan) (party : Party) → IsParty party → GoodPlan n p → GoodMove n (begins number p party)
+begins-good n number p party is good = by (p.count == most_scripts) refl (is_some (script_of p (actor_for p party))) where
+  fresh : p.count < 16 → Good n (inside (counted p party) (opened p party))
   fresh low = (
-    record { text = good.text; places = good.places; scripts = good.scripts; count = omega (arith, low); processes = process-few owner p good.processes; low = λ k. below-more p.count (p.count + 1) (script_of p k) (omega arith) (good.low k); apart = good.apart },
+    record { text = good.text; places = good.places; scripts = good.scripts; count = omega (arith, low); processes = process-few party p good.processes; low = λ k. below-more p.count (p.count + 1) (script_of p k) (omega arith) (good.low k); apart = good.apart },
     record {
       good = record {
-        some = actor-some owner p is;
-        few = actor-low owner p is (omega (arith, low, good.processes));
+        some = actor-some party p is;
+        few = actor-low party p is (omega (arith, low, good.processes));
         told = tt;
         fit = All-nil (λ (s : TimedStep). fits p.config s.step ≡ true);
         short = omega arith;
       };
-      actor = actor-is owner p;
+      actor = actor-is party p;
       early = omega arith;
       late = omega arith;
       fit = tt;
@@ -268,7 +268,7 @@ begins-good n number p owner is good = by (p.count == most_scripts) refl (is_som
     (omega arith, good.low),
   )
 
-  by : (a : Bool) → (p.count == most_scripts) ≡ a → (b : Bool) → GoodMove n (if a || b then stops (statuses.Record number 5) else goes (inside (counted p owner) (opened p owner)))
+  by : (a : Bool) → (p.count == most_scripts) ≡ a → (b : Bool) → GoodMove n (if a || b then stops (statuses.Record number 5) else goes (inside (counted p party) (opened p party)))
   by true is b = tt
   by false is true = tt
   by false is false = fresh (let other = eqb-false p.count 16 is in elim (eqb_tells p.count 16) [ inl t ↦ absurd (other t.1) | inr t ↦ omega (arith, good.count, t.1) ])
@@ -284,8 +284,8 @@ between-step-good n number p lines.Skip good = good
 between-step-good n number p lines.End good = ended-good n number p good
 between-step-good n number p _ good = tt
 
-owner-told : (text : List ℕ) (owner : Owner) → script_line_at text ≡ Ok (scripts.Begins owner) → IsOwner owner
-owner-told text owner is = (line-told text (scripts.Begins owner) is).0
+party-told : (text : List ℕ) (party : Party) → script_line_at text ≡ Ok (scripts.Begins party) → IsParty party
+party-told text party is = (line-told text (scripts.Begins party) is).0
 
 step-told : (text : List ℕ) (line : RecLine) → script_line_at text ≡ Ok (scripts.Step line) → Spells text line
 step-told text line is = line-told text (scripts.Step line) is
@@ -295,35 +295,35 @@ unfolding between_at
 between-good n number p text good = by (script_line_at text) refl where
   by : (r : Result ScriptLine Kind) → script_line_at text ≡ r → GoodMove n (between_as number p r)
   by (Err kind) is = tt
-  by (Ok (scripts.Begins owner)) is = begins-good n number p owner (owner-told text owner is) good
+  by (Ok (scripts.Begins party)) is = begins-good n number p party (party-told text party is) good
   by (Ok scripts.Closes) is = tt
   by (Ok (scripts.Step line)) is = between-step-good n number p line good
 
 -- ---- in a script
 
 -- who makes a step is written as its script has it
-actor-told : (c : Config) (form : ScriptForm) (k w : ℕ) (owner : Owner) (line : RecLine) (step : Step) (before : List (List ℕ)) → IsActor k owner before form → may_have owner line ≡ true → told_of c (form_in form) line ≡ turn w step
+actor-told : (c : Config) (form : ScriptForm) (k w : ℕ) (party : Party) (line : RecLine) (step : Step) (before : List (List ℕ)) → IsActor k party before form → may_have party line ≡ true → told_of c (form_in form) line ≡ turn w step
     → told_of c (form_in form) line ≡ turn (actor_of k step) step
-actor-told c form k w (owners.Association a) line step before is may says =
+actor-told c form k w (parties.Association a) line step before is may says =
     let made = association-made c (form_in form) w step a line may says in
     says ∙ ap (λ n. turn n step) (made.1.0 ∙ (sym is.0 ∙ sym (made.1.1 k)))
-actor-told c form k w owners.Process line step before is may says =
+actor-told c form k w parties.Process line step before is may says =
     let made = process-made c (form_in form) w step line may says in
     says ∙ ap (λ n. turn n step) (made.1.0 ∙ sym (made.1.1 k))
 
 -- the association behind the line
-actor-behind : (c : Config) (form : ScriptForm) (k w : ℕ) (owner : Owner) (text : List ℕ) (line : RecLine) (step : Step) (before : List (List ℕ)) → IsActor k owner before form → may_have owner line ≡ true → judging.line_at text ≡ Ok line
-    → told_of c (form_in form) line ≡ turn w step → IsActor k owner (text ∷ before) (form_passed line form)
-actor-behind c form k w (owners.Association a) text line step before is may reads says =
+actor-behind : (c : Config) (form : ScriptForm) (k w : ℕ) (party : Party) (text : List ℕ) (line : RecLine) (step : Step) (before : List (List ℕ)) → IsActor k party before form → may_have party line ≡ true → judging.line_at text ≡ Ok line
+    → told_of c (form_in form) line ≡ turn w step → IsActor k party (text ∷ before) (form_passed line form)
+actor-behind c form k w (parties.Association a) text line step before is may reads says =
     let made = association-made c (form_in form) w step a line may says in (
       is.0,
-      passed-in (owners.Association a) line form may
+      passed-in (parties.Association a) line form may
           ∙ (ap (λ n. form_behind n line (form_in form)) (made.0 ∙ sym is.0) ∙ (ap (form_behind k line) is.1 ∙ ap (λ r. form_after k r (form_at k before)) (sym reads))),
     )
-actor-behind c form k w owners.Process text line step before is may reads says = (is.0, process-passed line form may ∙ is.1)
+actor-behind c form k w parties.Process text line step before is may reads says = (is.0, process-passed line form may ∙ is.1)
 
 module _ (n number : ℕ) (p : Plan) (o : Opened) (text : List ℕ) (line : RecLine) (next : number ≡ suc n) (spells : Spells text line) (reads : judging.line_at text ≡ Ok line) (plan : GoodPlan n p) (good : GoodOpened n p.config o) (seated : IsSeated p o) where
-  taken-good : (w : ℕ) (step : Step) → may_have o.owner line ≡ true → told_of p.config (form_in o.form) line ≡ turn w step → GoodOpened (suc n) p.config (taken o number text (form_passed line o.form) step)
+  taken-good : (w : ℕ) (step : Step) → may_have o.party line ≡ true → told_of p.config (form_in o.form) line ≡ turn w step → GoodOpened (suc n) p.config (taken o number text (form_passed line o.form) step)
   taken-good w step may says =
       let l : StepLine = record { number = number; text = text; form = o.form; moment = o.moment } in
       let s : TimedStep = record { moment = o.moment; step = step } in
@@ -335,11 +335,11 @@ module _ (n number : ℕ) (p : Plan) (o : Opened) (text : List ℕ) (line : RecL
           few = good.good.few;
           told = told-push p.config o.actor [] o.script.lines o.script.steps l s good.good.told (record {
             line = line;
-            owner = o.owner;
+            party = o.party;
             read = reads;
             may = may;
             actor = good.actor;
-            told = actor-told p.config o.form o.actor w o.owner line step before good.actor may says;
+            told = actor-told p.config o.form o.actor w o.party line step before good.actor may says;
             moment = refl;
             early = good.early;
             late = good.late;
@@ -348,7 +348,7 @@ module _ (n number : ℕ) (p : Plan) (o : Opened) (text : List ℕ) (line : RecL
           fit = All-push (λ (s : TimedStep). fits p.config s.step ≡ true) o.script.steps s good.good.fit own.1;
           short = omega (arith, length-append o.script.steps (s ∷ []), good.good.short);
         };
-        actor = subst (λ b. IsActor o.actor o.owner b (form_passed line o.form)) (sym (newest-push o.script.lines l)) (actor-behind p.config o.form o.actor w o.owner text line step before good.actor may reads says);
+        actor = subst (λ b. IsActor o.actor o.party b (form_passed line o.form)) (sym (newest-push o.script.lines l)) (actor-behind p.config o.form o.actor w o.party text line step before good.actor may reads says);
         early = good.early;
         late = good.late;
         fit = fit-behind line o.form spells.ranges good.fit;
@@ -359,7 +359,7 @@ module _ (n number : ℕ) (p : Plan) (o : Opened) (text : List ℕ) (line : RecL
       let range = subst IsLine (passed-at p.config (form_in o.form) line moment says) spells.ranges in
       record { good = more-script n (suc n) p.config o.actor o.script (omega arith) good.good; actor = good.actor; early = range.0; late = range.1; fit = good.fit }
 
-  told-good : (t : Told) → may_have o.owner line ≡ true → told_of p.config (form_in o.form) line ≡ t → GoodMove (suc n) (told_in number p o text line t)
+  told-good : (t : Told) → may_have o.party line ≡ true → told_of p.config (form_in o.form) line ≡ t → GoodMove (suc n) (told_in number p o text line t)
   told-good skip may says = (more-plan n (suc n) p (omega arith) plan, more-opened n (suc n) p.config o (omega arith) good, seated)
   told-good (pass_to moment) may says = (more-plan n (suc n) p (omega arith) plan, passed-good moment says, seated)
   told-good (turn w step) may says = (more-plan n (suc n) p (omega arith) plan, taken-good w step may says, seated)
@@ -368,8 +368,8 @@ module _ (n number : ℕ) (p : Plan) (o : Opened) (text : List ℕ) (line : RecL
   told-good last may says = tt
 
   step-good : GoodMove (suc n) (inside_step number p o text line)
-  step-good = by (may_have o.owner line) refl where
-    by : (b : Bool) → may_have o.owner line ≡ b → GoodMove (suc n) (if b then told_in number p o text line (told_of p.config (form_in o.form) line) else stops (statuses.Record number (strange p.config line)))
+  step-good = by (may_have o.party line) refl where
+    by : (b : Bool) → may_have o.party line ≡ b → GoodMove (suc n) (if b then told_in number p o text line (told_of p.config (form_in o.form) line) else stops (statuses.Record number (strange p.config line)))
     by true may = told-good (told_of p.config (form_in o.form) line) may refl
     by false may = tt
 
@@ -427,7 +427,7 @@ unfolding inside_at
 inside-good n p o text plan good seated = by (script_line_at text) refl where
   by : (r : Result ScriptLine Kind) → script_line_at text ≡ r → GoodMove (suc n) (inside_as (suc n) p o text r)
   by (Err kind) is = tt
-  by (Ok (scripts.Begins owner)) is = tt
+  by (Ok (scripts.Begins party)) is = tt
   by (Ok scripts.Closes) is = more-plan n (suc n) (with_script p o.actor o.script) (omega arith) (closed-good n p o plan good seated)
   by (Ok (scripts.Step line)) is =
       let spells = step-told text line is in

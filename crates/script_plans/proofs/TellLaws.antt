@@ -23,6 +23,7 @@ use Rattle.run_record.specs.declared.line.RecLine.TheVariants as lines
 use Rattle.run_record.specs.declared.pairs.Pair.{Pair}
 use Rattle.record_steps.specs.Asks.{asked_by}
 use Rattle.record_steps.specs.Forms.{Form, shut, direct, mms, dialling, wire, is_shut, is_direct, opened_form, form_behind}
+use Rattle.record_steps.specs.Own.{own_opening}
 use Rattle.record_steps.specs.Resolved.{association_of, turn_of, opened_in, opened_as, valued_as, written_as, lost_as, asked_as, spelled_as, sent_as, piece_as, fed_as, set_to, set_as, ended_as, blocked_as, told_of}
 use Rattle.record_steps.specs.Settings.{are_named, settings_at}
 use Rattle.record_steps.specs.Shapes.{shape_at}
@@ -30,9 +31,9 @@ use Rattle.record_steps.specs.Streams.{piece_at}
 use Rattle.record_steps.specs.Told.{Told, pass_to, turn, refused}
 use Rattle.record_steps.specs.declared.heard.Wired.{Wired}
 use Rattle.record_steps.specs.declared.heard.Wired.TheVariants.{Dialling, On}
-use Rattle.script_lines.specs.Owners.{is_no_stream, is_of, is_of_process, may_have}
-use Rattle.script_lines.specs.declared.owner.Owner.{Owner}
-use Rattle.script_lines.specs.declared.owner.Owner.TheVariants as owners
+use Rattle.script_lines.specs.Parties.{is_no_stream, is_of, is_of_process, may_have}
+use Rattle.script_lines.specs.declared.party.Party.{Party}
+use Rattle.script_lines.specs.declared.party.Party.TheVariants as parties
 use Rattle.written_histories.specs.Written.{actor_of}
 use Rattle.script_plans.specs.Forms.{form_in, opened_so, form_passed, IsFit}
 use Rattle.script_plans.specs.declared.form.ScriptForm.{ScriptForm}
@@ -58,8 +59,8 @@ made c k actor s step P is p = by (fits c s) is where
 
 module _ (c : Config) (form : Form) (actor : ℕ) (step : Step) where
   shut-made : (a : AssocNo) (asked : OpenForm) → opened_in c a asked ≡ turn actor step → Keeps same a.0 actor step
-  shut-made a opens.Direct h = made c a.0 actor (steps.Open a 65000 (record { 0 = a.0 })) step (Keeps same a.0) h (refl, λ k. refl)
-  shut-made a (opens.Mms size) h = made c a.0 actor (steps.Open a size (record { 0 = a.0 })) step (Keeps same a.0) h (refl, λ k. refl)
+  shut-made a opens.Direct h = made c a.0 actor (own_opening a 65000) step (Keeps same a.0) h (refl, λ k. refl)
+  shut-made a (opens.Mms size) h = made c a.0 actor (own_opening a size) step (Keeps same a.0) h (refl, λ k. refl)
   shut-made a opens.Wire h = absurd cc
 
   open-made : (a : AssocNo) (asked : OpenForm) → opened_as c form a asked ≡ turn actor step → Keeps same a.0 actor step
@@ -206,33 +207,33 @@ opened-in own a opens.Wire was may = by (own.0 == a.0) may where
   by true may = absurd cc
   by false may = absurd cc
 
-pub passed-in : (owner : Owner) (line : RecLine) (was : ScriptForm) → may_have owner line ≡ true → form_in (form_passed line was) ≡ form_behind (association_of line) line (form_in was)
-passed-in (owners.Association own) lines.Skip was may = refl
-passed-in (owners.Association own) (lines.At moment) was may = refl
-passed-in (owners.Association own) (lines.Open a asked) was may = opened-in own a asked was may
-passed-in (owners.Association own) (lines.Write a block comp value) was may = refl
-passed-in (owners.Association own) (lines.Pdu a hex) was may = refl
-passed-in (owners.Association own) (lines.Piece a hex) was may = absurd cc
-passed-in (owners.Association own) (lines.Take a) was may = refl
-passed-in (owners.Association own) (lines.Lost a) was may = sym (ap (λ x. if x then shut else form_in was) (same-number a.0))
-passed-in (owners.Association own) (lines.Set pairs) was may = refl
-passed-in (owners.Association own) (lines.Done control well) was may = refl
-passed-in (owners.Association own) (lines.Block control on) was may = refl
-passed-in (owners.Association own) lines.Tick was may = refl
-passed-in (owners.Association own) lines.End was may = refl
-passed-in owners.Process lines.Skip was may = refl
-passed-in owners.Process (lines.At moment) was may = refl
-passed-in owners.Process (lines.Open a asked) was may = absurd cc
-passed-in owners.Process (lines.Write a block comp value) was may = refl
-passed-in owners.Process (lines.Pdu a hex) was may = refl
-passed-in owners.Process (lines.Piece a hex) was may = absurd cc
-passed-in owners.Process (lines.Take a) was may = refl
-passed-in owners.Process (lines.Lost a) was may = absurd cc
-passed-in owners.Process (lines.Set pairs) was may = refl
-passed-in owners.Process (lines.Done control well) was may = refl
-passed-in owners.Process (lines.Block control on) was may = refl
-passed-in owners.Process lines.Tick was may = refl
-passed-in owners.Process lines.End was may = refl
+pub passed-in : (party : Party) (line : RecLine) (was : ScriptForm) → may_have party line ≡ true → form_in (form_passed line was) ≡ form_behind (association_of line) line (form_in was)
+passed-in (parties.Association own) lines.Skip was may = refl
+passed-in (parties.Association own) (lines.At moment) was may = refl
+passed-in (parties.Association own) (lines.Open a asked) was may = opened-in own a asked was may
+passed-in (parties.Association own) (lines.Write a block comp value) was may = refl
+passed-in (parties.Association own) (lines.Pdu a hex) was may = refl
+passed-in (parties.Association own) (lines.Piece a hex) was may = absurd cc
+passed-in (parties.Association own) (lines.Take a) was may = refl
+passed-in (parties.Association own) (lines.Lost a) was may = sym (ap (λ x. if x then shut else form_in was) (same-number a.0))
+passed-in (parties.Association own) (lines.Set pairs) was may = refl
+passed-in (parties.Association own) (lines.Done control well) was may = refl
+passed-in (parties.Association own) (lines.Block control on) was may = refl
+passed-in (parties.Association own) lines.Tick was may = refl
+passed-in (parties.Association own) lines.End was may = refl
+passed-in parties.Process lines.Skip was may = refl
+passed-in parties.Process (lines.At moment) was may = refl
+passed-in parties.Process (lines.Open a asked) was may = absurd cc
+passed-in parties.Process (lines.Write a block comp value) was may = refl
+passed-in parties.Process (lines.Pdu a hex) was may = refl
+passed-in parties.Process (lines.Piece a hex) was may = absurd cc
+passed-in parties.Process (lines.Take a) was may = refl
+passed-in parties.Process (lines.Lost a) was may = absurd cc
+passed-in parties.Process (lines.Set pairs) was may = refl
+passed-in parties.Process (lines.Done control well) was may = refl
+passed-in parties.Process (lines.Block control on) was may = refl
+passed-in parties.Process lines.Tick was may = refl
+passed-in parties.Process lines.End was may = refl
 
 -- no line of the process makes anything of an association
 pub process-passed : (line : RecLine) (was : ScriptForm) → is_of_process line ≡ true → form_passed line was ≡ was
@@ -278,8 +279,8 @@ if-none true t u first second = first
 if-none false t u first second = second
 
 shut-none : (c : Config) (a : AssocNo) (asked : OpenForm) → NoMoment (opened_in c a asked)
-shut-none c a opens.Direct = turn-none c a.0 (steps.Open a 65000 (record { 0 = a.0 }))
-shut-none c a (opens.Mms size) = turn-none c a.0 (steps.Open a size (record { 0 = a.0 }))
+shut-none c a opens.Direct = turn-none c a.0 (own_opening a 65000)
+shut-none c a (opens.Mms size) = turn-none c a.0 (own_opening a size)
 shut-none c a opens.Wire = tt
 
 value-none : (c : Config) (a : AssocNo) (b : ℕ) (comp : Comp) (o : Option Value) → NoMoment (valued_as c a b comp o)

@@ -12,9 +12,9 @@ use Rattle.record_steps.specs.Resolved.{told_of}
 use Rattle.record_steps.specs.Told.{Told, skip, pass_to, turn, heard, refused, last}
 use Rattle.record_outcome.specs.declared.status.Status.TheVariants as statuses
 use Rattle.script_lines.specs.Lines.{script_line_at}
-use Rattle.script_lines.specs.Owners.{may_have}
-use Rattle.script_lines.specs.declared.owner.Owner.{Owner}
-use Rattle.script_lines.specs.declared.owner.Owner.TheVariants as owners
+use Rattle.script_lines.specs.Parties.{may_have}
+use Rattle.script_lines.specs.declared.party.Party.{Party}
+use Rattle.script_lines.specs.declared.party.Party.TheVariants as parties
 use Rattle.script_lines.specs.declared.line.ScriptLine.{ScriptLine}
 use Rattle.script_lines.specs.declared.line.ScriptLine.TheVariants as scripts
 use Rattle.script_plans.specs.Forms.{form_in, form_passed}
@@ -31,26 +31,26 @@ abbrev pub most_scripts : ℕ
 most_scripts = 16
 
 -- an association has its own number; scripts of the process have 17, 18 and so on, in their order
-abbrev pub actor_for : Plan → Owner → ℕ
-actor_for p (owners.Association a) = a.0
-actor_for p owners.Process = 17 + p.processes
+abbrev pub actor_for : Plan → Party → ℕ
+actor_for p (parties.Association a) = a.0
+actor_for p parties.Process = 17 + p.processes
 
-abbrev pub processes_with : Plan → Owner → ℕ
-processes_with p (owners.Association a) = p.processes
-processes_with p owners.Process = p.processes + 1
+abbrev pub processes_with : Plan → Party → ℕ
+processes_with p (parties.Association a) = p.processes
+processes_with p parties.Process = p.processes + 1
 
 -- one script more has begun
-abbrev pub counted : Plan → Owner → Plan
-counted p owner = record { config = p.config; text = p.text; scripts = p.scripts; count = p.count + 1; processes = processes_with p owner }
+abbrev pub counted : Plan → Party → Plan
+counted p party = record { config = p.config; text = p.text; scripts = p.scripts; count = p.count + 1; processes = processes_with p party }
 
 -- no line of it is read; its association isn't open
-abbrev pub opened : Plan → Owner → Opened
-opened p owner = record { owner = owner; actor = actor_for p owner; form = forms.Shut; moment = least_moment; script = record { place = p.count; lines = []; steps = [] } }
+abbrev pub opened : Plan → Party → Opened
+opened p party = record { party = party; actor = actor_for p party; form = forms.Shut; moment = least_moment; script = record { place = p.count; lines = []; steps = [] } }
 
 -- a script of an association that has one already is refused, and so is one too many
-abbrev pub begins : ℕ → Plan → Owner → Move
-begins number p owner =
-    if p.count == most_scripts || is_some (script_of p (actor_for p owner)) then stops (statuses.Record number 5) else goes (inside (counted p owner) (opened p owner))
+abbrev pub begins : ℕ → Plan → Party → Move
+begins number p party =
+    if p.count == most_scripts || is_some (script_of p (actor_for p party)) then stops (statuses.Record number 5) else goes (inside (counted p party) (opened p party))
 
 -- ---- a line that may not stand where it stands
 
@@ -74,7 +74,7 @@ between_step number p lines.End = ended number p
 between_step number p line = stops (statuses.Record number (strange p.config line))
 
 abbrev pub between_line : ℕ → Plan → ScriptLine → Move
-between_line number p (scripts.Begins owner) = begins number p owner
+between_line number p (scripts.Begins party) = begins number p party
 between_line number p scripts.Closes = stops (statuses.Record number 5)
 between_line number p (scripts.Step line) = between_step number p line
 
@@ -89,12 +89,12 @@ between_at number p text = between_as number p (script_line_at text)
 
 -- at another moment
 abbrev pub at_moment : Opened → ℕ → Opened
-at_moment o moment = record { owner = o.owner; actor = o.actor; form = o.form; moment = moment; script = o.script }
+at_moment o moment = record { party = o.party; actor = o.actor; form = o.form; moment = moment; script = o.script }
 
 -- behind a line that makes one, and makes its association of this form
 abbrev pub taken : Opened → ℕ → List ℕ → ScriptForm → Step → Opened
 taken o number text form step = record {
-  owner = o.owner;
+  party = o.party;
   actor = o.actor;
   form = form;
   moment = o.moment;
@@ -112,10 +112,10 @@ told_in number p o text line last = stops (statuses.Record number 5)
 
 abbrev pub inside_step : ℕ → Plan → Opened → List ℕ → RecLine → Move
 inside_step number p o text line =
-    if may_have o.owner line then told_in number p o text line (told_of p.config (form_in o.form) line) else stops (statuses.Record number (strange p.config line))
+    if may_have o.party line then told_in number p o text line (told_of p.config (form_in o.form) line) else stops (statuses.Record number (strange p.config line))
 
 abbrev pub inside_line : ℕ → Plan → Opened → List ℕ → ScriptLine → Move
-inside_line number p o text (scripts.Begins owner) = stops (statuses.Record number 5)
+inside_line number p o text (scripts.Begins party) = stops (statuses.Record number 5)
 inside_line number p o text scripts.Closes = goes (between (with_script p o.actor o.script))
 inside_line number p o text (scripts.Step line) = inside_step number p o text line
 

@@ -10,9 +10,9 @@ use Rattle.record_steps.specs.Told.{turn}
 use Rattle.record_history.specs.Histories.{octets_of, form_at}
 use Rattle.record_outcome.specs.Records.{most_lines}
 use Rattle.record_laws.specs.Grammar.{IsInner, Each}
-use Rattle.script_lines.specs.Owners.{may_have}
-use Rattle.script_lines.specs.declared.owner.Owner.{Owner}
-use Rattle.script_lines.specs.declared.owner.Owner.TheVariants as owners
+use Rattle.script_lines.specs.Parties.{may_have}
+use Rattle.script_lines.specs.declared.party.Party.{Party}
+use Rattle.script_lines.specs.declared.party.Party.TheVariants as parties
 use Rattle.actor_scripts.specs.Stops.{AreFit}
 use Rattle.actor_scripts.specs.declared.script.TimedStep.{TimedStep}
 use Rattle.written_histories.specs.Written.{actor_of}
@@ -23,18 +23,18 @@ use Rattle.script_plans.specs.declared.form.ScriptForm.TheVariants as forms
 use Rattle.script_plans.specs.declared.line.StepLine.{StepLine}
 use Rattle.script_plans.specs.Inputs.{outcome, ready}
 
--- actor k is this owner's, whose association is of this form behind these lines, the newest first; no line of the process has one
-abbrev pub IsActor : ℕ → Owner → List (List ℕ) → ScriptForm → Type 0
-IsActor k (owners.Association a) before form = (k ≡ a.0) × (form_in form ≡ form_at k before)
-IsActor k owners.Process before form = (16 < k) × (form ≡ forms.Shut)
+-- actor k is this party's, whose association is of this form behind these lines, the newest first; no line of the process has one
+abbrev pub IsActor : ℕ → Party → List (List ℕ) → ScriptForm → Type 0
+IsActor k (parties.Association a) before form = (k ≡ a.0) × (form_in form ≡ form_at k before)
+IsActor k parties.Process before form = (16 < k) × (form ≡ forms.Shut)
 
 -- behind these lines of its script, the newest first, a line tells this step
 pub record IsTold (c : Config) (k : ℕ) (before : List (List ℕ)) (l : StepLine) (s : TimedStep) : Type 0 where
   pub line : RecLine
-  pub owner : Owner
+  pub party : Party
   pub read : line_at l.text ≡ Ok line
-  pub may : may_have owner line ≡ true
-  pub actor : IsActor k owner before l.form
+  pub may : may_have party line ≡ true
+  pub actor : IsActor k party before l.form
   pub told : told_of c (form_in l.form) line ≡ turn (actor_of k s.step) s.step
   pub moment : l.moment ≡ s.moment
   pub early : 441763200000 ≤ l.moment

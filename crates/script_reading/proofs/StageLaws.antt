@@ -64,7 +64,7 @@ module _ (number before : ℕ) (text : Vec ℕ Global) (old : Stage) (line whole
 -- ---- among scripts
 
 pub view-ranges : (text : List ℕ) (v : ScriptLine) → script_line_at text ≡ Ok v → IsView v
-view-ranges text (scripts.Begins owner) is = (line-told text (scripts.Begins owner) is).0
+view-ranges text (scripts.Begins party) is = (line-told text (scripts.Begins party) is).0
 view-ranges text scripts.Closes is = tt
 view-ranges text (scripts.Step line) is = let s : Spells text line = line-told text (scripts.Step line) is in s.ranges
 

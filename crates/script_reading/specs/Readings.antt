@@ -11,8 +11,8 @@ use Rattle.record_outcome.specs.Records.{NoNewline, pieces}
 use Rattle.record_outcome.specs.Judgements.{IsRefusal}
 use Rattle.record_outcome.specs.declared.status.Status.{Status}
 use Rattle.record_outcome.specs.declared.status.Status.TheVariants as statuses
-use Rattle.script_lines.specs.Grammar.{IsOwner}
-use Rattle.script_lines.specs.declared.owner.Owner.{Owner}
+use Rattle.script_lines.specs.Grammar.{IsParty}
+use Rattle.script_lines.specs.declared.party.Party.{Party}
 use Rattle.script_lines.specs.declared.line.ScriptLine.{ScriptLine}
 use Rattle.script_lines.specs.declared.line.ScriptLine.TheVariants as lines
 use Rattle.script_plans.specs.Forms.{IsFit}
@@ -55,9 +55,9 @@ Moved (nexts.Stop status) now move = move ≡ stops status
 Moved nexts.End now move = (p : Plan) × (now ≡ between p) × (move ≡ ends p)
 
 -- a script has begun, or none may begin
-abbrev pub Begins : Option Opened → Owner → Plan → Plan → Type 0
-Begins None owner p q = (p.count == most_scripts || is_some (script_of p (actor_for p owner))) ≡ true
-Begins (Some o) owner p q = ((p.count == most_scripts || is_some (script_of p (actor_for p owner))) ≡ false) × (o ≡ opened p owner) × (q ≡ counted p owner)
+abbrev pub Begins : Option Opened → Party → Plan → Plan → Type 0
+Begins None party p q = (p.count == most_scripts || is_some (script_of p (actor_for p party))) ≡ true
+Begins (Some o) party p q = ((p.count == most_scripts || is_some (script_of p (actor_for p party))) ≡ false) × (o ≡ opened p party) × (q ≡ counted p party)
 
 -- no step is told
 abbrev pub IsStepless : Told → Type 0
@@ -97,7 +97,7 @@ IsWellScripts x = IsRoomy x.plan × IfSome x.current IsWellOpened
 
 -- the numbers of a line that is read in place are in their ranges
 abbrev pub IsView : ScriptLine → Type 0
-IsView (lines.Begins owner) = IsOwner owner
+IsView (lines.Begins party) = IsParty party
 IsView (lines.Step line) = IsLine line
 IsView lines.Closes = Unit {0}
 

@@ -24,7 +24,7 @@ use object_model::Model;
 use record_outcome::status::Status;
 use record_steps::Told;
 use run_record::{Kind, LineView};
-use script_lines::{Owner, ScriptView, view_script_line};
+use script_lines::{Party, ScriptView, view_script_line};
 use script_plans::{Opened, Script, ScriptForm, StepLine};
 use std::alloc::{AllocError, Global};
 use std::mem::replace;
@@ -180,7 +180,7 @@ fn read_opened(
     ensures decided { IfOk result IsDecided }
     ensures well { OnOk result (IsWellOpened opened.new) }
 {
-    if opened.owner.may_have(line) {
+    if opened.party.may_have(line) {
         return play(alloc, opened, model, number, text, line);
     }
     let kind = strange(alloc, model, line)?;
@@ -189,19 +189,19 @@ fn read_opened(
 
 impl Plan {
     ghost use Rattle.std.specs.Prelude.{◌≡◌, ◌<◌, ◌==◌, ◌||◌, is_some, IfSome};
-    ghost use Rattle.script_lines.specs.Grammar.{IsOwner};
+    ghost use Rattle.script_lines.specs.Grammar.{IsParty};
     ghost use Rattle.script_plans.specs.Plans.{script_of, with_script};
     ghost use Rattle.script_plans.specs.Scripting.{most_scripts, actor_for, counted};
     ghost use Rattle.script_reading.specs.Readings.{plan_seen, Begins, IsRoomy, IsWellOpened};
 
     /// The number of the actor of the next script.
-    fn actor_of(&self, owner: Owner) -> u32
+    fn actor_of(&self, party: Party) -> u32
         requires { IsRoomy self.now }
-        ensures { result ≡ actor_for (plan_seen self.now) owner }
+        ensures { result ≡ actor_for (plan_seen self.now) party }
     {
-        match owner {
-            Owner::Association(a) => a.0,
-            Owner::Process => 17 + self.processes,
+        match party {
+            Party::Association(a) => a.0,
+            Party::Process => 17 + self.processes,
         }
     }
 
@@ -226,16 +226,16 @@ impl Plan {
     }
 
     /// One script more begins.
-    fn count_one(&mut self, owner: Owner)
+    fn count_one(&mut self, party: Party)
         requires roomy { IsRoomy self.old }
         requires few { self.old.count < 16 }
-        ensures plan { plan_seen self.new ≡ counted (plan_seen self.old) owner }
+        ensures plan { plan_seen self.new ≡ counted (plan_seen self.old) party }
         ensures roomy { IsRoomy self.new }
     {
         self.count += 1;
-        match owner {
-            Owner::Association(_) => {}
-            Owner::Process => self.processes += 1,
+        match party {
+            Party::Association(_) => {}
+            Party::Process => self.processes += 1,
         }
     }
 
@@ -247,21 +247,21 @@ impl Plan {
     }
 
     /// Begins a script; none where its actor has one, or where there are 16.
-    fn begin(&mut self, alloc: Global, owner: Owner) -> Option<Opened>
+    fn begin(&mut self, alloc: Global, party: Party) -> Option<Opened>
         requires roomy { IsRoomy self.old }
-        requires owner { IsOwner owner }
-        ensures begins { Begins result owner (plan_seen self.old) (plan_seen self.new) }
+        requires party { IsParty party }
+        ensures begins { Begins result party (plan_seen self.old) (plan_seen self.new) }
         ensures roomy { IsRoomy self.new }
         ensures well { IfSome result IsWellOpened }
     {
-        let actor = self.actor_of(owner);
+        let actor = self.actor_of(party);
         if self.is_taken(actor) {
             return None;
         }
         let script = Script::new(alloc, self.count);
-        self.count_one(owner);
+        self.count_one(party);
         Some(Opened {
-            owner,
+            party,
             actor,
             form: ScriptForm::Shut,
             moment: Moment::first(),
@@ -281,7 +281,7 @@ impl Scripts {
     ghost use Rattle.std.specs.Prelude.{◌≡◌, None, IfOk, OnOk};
     ghost use Rattle.run_record.specs.Grammar.{IsLine};
     ghost use Rattle.run_record.specs.Seen.{line_seen};
-    ghost use Rattle.script_lines.specs.Grammar.{IsOwner};
+    ghost use Rattle.script_lines.specs.Grammar.{IsParty};
     ghost use Rattle.script_lines.specs.Seen.{view_seen};
     ghost use Rattle.script_plans.specs.Scripting.{begins, ended, between_line, inside_step, inside_line, among_line};
     ghost use Rattle.script_plans.specs.Inputs.{lines_at};
@@ -307,15 +307,15 @@ impl Scripts {
     }
 
     /// A script begins, between others.
-    fn begin(&mut self, alloc: Global, number: u64, owner: Owner) -> Next
+    fn begin(&mut self, alloc: Global, number: u64, party: Party) -> Next
         requires between { self.old.current ≡ None }
-        requires owner { IsOwner owner }
+        requires party { IsParty party }
         requires well { IsWellScripts self.old }
-        ensures moves { Moved result (scripts_seen self.new) (begins number (plan_seen self.old.plan) owner) }
+        ensures moves { Moved result (scripts_seen self.new) (begins number (plan_seen self.old.plan) party) }
         ensures decided { IsDecided result }
         ensures well { IsWellScripts self.new }
     {
-        match self.plan.begin(alloc, owner) {
+        match self.plan.begin(alloc, party) {
             Some(opened) => {
                 self.current = Some(opened);
                 Next::On
@@ -351,7 +351,7 @@ impl Scripts {
         ensures well { OnOk result (IsWellScripts self.new) }
     {
         match view {
-            ScriptView::Begins(owner) => Ok(self.begin(alloc, number, *owner)),
+            ScriptView::Begins(party) => Ok(self.begin(alloc, number, *party)),
             ScriptView::Closes => Ok(stop(number, Kind::State)),
             ScriptView::Step(LineView::Skip) => Ok(Next::On),
             ScriptView::Step(LineView::End) => Ok(self.end(number)),

@@ -20,7 +20,7 @@ pub record IsSame (c : Model) (p : Point) (before : Past) : Type 0 where
   pub stored : (x : ℕ) (place : Place) → stored c x (p ∷ before) place ≡ stored c x before place
 
 quiet-same : (c : Model) (before : Past) (n m : ℕ) (d : Deed) → IsQuiet d → IsSame c (at n m d) before
-quiet-same c before n m (opened a o w k) is = record { active = λ e. refl; activation = λ e. refl; edit = λ e. refl; stored = λ x place. refl }
+quiet-same c before n m (opened a o w k owner) is = record { active = λ e. refl; activation = λ e. refl; edit = λ e. refl; stored = λ x place. refl }
 quiet-same c before n m (lost a) is = absurd is
 quiet-same c before n m (valued vs) is = absurd is
 quiet-same c before n m (finished k b) is = record { active = λ e. refl; activation = λ e. refl; edit = λ e. refl; stored = λ x place. refl }

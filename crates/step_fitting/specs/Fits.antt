@@ -86,7 +86,7 @@ abbrev pub is_association : ℕ → Bool
 is_association a = nat_le 1 a && nat_le a 16
 
 abbrev pub step_fits : Counts → List TypeOf → Step → Bool
-step_fits n kinds (steps.Open a size writer) = is_association a.0 && (nat_le 1024 size && nat_le size 65000)
+step_fits n kinds (steps.Open a size writer owner) = is_association a.0 && (nat_le 1024 size && nat_le size 65000)
 step_fits n kinds (steps.Ask a r) = is_association a.0 && service_fits n r.service
 step_fits n kinds (steps.Write a b k v) = is_association a.0 && (nat_lt b.0 n.blocks && is_sound v)
 step_fits n kinds (steps.Take a) = is_association a.0

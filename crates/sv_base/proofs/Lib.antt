@@ -5,3 +5,4 @@ pub mod SizeLaws
 pub mod LengthLaws
 pub mod DataFacts
 pub mod FieldLaws
+pub mod OwnerLaws

@@ -13,7 +13,7 @@ use Rattle.sv_base.specs.declared.types.TypeOf.TheVariants as types
 -- ---- of a report block, in the order of its type
 
 abbrev pub components : List Comp
-components = comps.RptID ∷ comps.RptEna ∷ comps.DatSet ∷ comps.ConfRev ∷ comps.OptFlds ∷ comps.BufTm ∷ comps.SqNum ∷ comps.TrgOps ∷ comps.IntgPd ∷ comps.GI ∷ comps.PurgeBuf ∷ comps.EntryID ∷ comps.TimeofEntry ∷ []
+components = comps.RptID ∷ comps.RptEna ∷ comps.DatSet ∷ comps.ConfRev ∷ comps.OptFlds ∷ comps.BufTm ∷ comps.SqNum ∷ comps.TrgOps ∷ comps.IntgPd ∷ comps.GI ∷ comps.PurgeBuf ∷ comps.EntryID ∷ comps.TimeofEntry ∷ comps.ResvTms ∷ comps.Owner ∷ []
 
 abbrev pub comp_name : Comp → List ℕ
 comp_name comps.RptID = codes "RptID"
@@ -29,6 +29,8 @@ comp_name comps.GI = codes "GI"
 comp_name comps.PurgeBuf = codes "PurgeBuf"
 comp_name comps.EntryID = codes "EntryID"
 comp_name comps.TimeofEntry = codes "TimeofEntry"
+comp_name comps.ResvTms = codes "ResvTms"
+comp_name comps.Owner = codes "Owner"
 
 -- the types of a report block's components
 abbrev pub comp_type : Comp → TypeOf
@@ -45,6 +47,8 @@ comp_type comps.GI = types.Bool
 comp_type comps.PurgeBuf = types.Bool
 comp_type comps.EntryID = types.EntryId
 comp_type comps.TimeofEntry = types.Stamp
+comp_type comps.ResvTms = types.Int 16
+comp_type comps.Owner = types.Octets 64
 
 -- the component of a name, if there is one
 abbrev pub comp_named : List ℕ → Option Comp

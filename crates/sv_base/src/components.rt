@@ -19,6 +19,8 @@ pub enum Comp {
     PurgeBuf,
     EntryID,
     TimeofEntry,
+    ResvTms,
+    Owner,
 }
 
 /// A component of a setting group block (IEC 61850-7-2, SGCB attributes).
@@ -36,7 +38,7 @@ impl Comp {
     ghost use Rattle.sv_base.specs.ComponentTable.{comp_name, comp_named, comp_type};
 
     /// All of them, in the order of the block's type.
-    pub const ALL: [Comp; 13] = [
+    pub const ALL: [Comp; 15] = [
         Comp::RptID,
         Comp::RptEna,
         Comp::DatSet,
@@ -50,6 +52,8 @@ impl Comp {
         Comp::PurgeBuf,
         Comp::EntryID,
         Comp::TimeofEntry,
+        Comp::ResvTms,
+        Comp::Owner,
     ];
 
     /// Its name.
@@ -70,6 +74,8 @@ impl Comp {
             Comp::PurgeBuf => b"PurgeBuf",
             Comp::EntryID => b"EntryID",
             Comp::TimeofEntry => b"TimeofEntry",
+            Comp::ResvTms => b"ResvTms",
+            Comp::Owner => b"Owner",
         }
     }
 
@@ -86,6 +92,8 @@ impl Comp {
             Comp::TrgOps => TypeOf::Bits(6),
             Comp::EntryID => TypeOf::EntryId,
             Comp::TimeofEntry => TypeOf::Stamp,
+            Comp::ResvTms => TypeOf::Int(16),
+            Comp::Owner => TypeOf::Octets(64),
         }
     }
 

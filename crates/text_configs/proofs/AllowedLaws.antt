@@ -95,6 +95,8 @@ comp-short comps.GI = omega arith
 comp-short comps.PurgeBuf = omega arith
 comp-short comps.EntryID = omega arith
 comp-short comps.TimeofEntry = omega arith
+comp-short comps.ResvTms = omega arith
+comp-short comps.Owner = omega arith
 
 part-short : (k : SettingComp) → length (setting_comp_name k) ≤ 11
 part-short settings.NumOfSG = omega arith

@@ -114,16 +114,16 @@ fn config(alloc: Global) -> Result<Config, AllocError>
     Ok(config)
 }
 
-// A node stands before its parts, and names in the order in which lines first name them: LLN0 with 15 nodes of its block,
+// A node stands before its parts, and names in the order in which lines first name them: LLN0 with 17 nodes of its block,
 // then XCBR1 with ST, CO and CF, then MMXU1; the second domain behind the first.
 const NODES: [(&[u8], &[u8], Option<u32>); 10] = [
     (b"BAY1", b"LLN0", Some(0)),
     (b"BAY1", b"LLN0$BR$brcb1$TimeofEntry", Some(15)),
-    (b"BAY1", b"XCBR1$ST$Pos", Some(18)),
-    (b"BAY1", b"XCBR1$CO$Pos$Oper$origin$orIdent", Some(26)),
-    (b"BAY1", b"XCBR1$CF$Pos$ctlModel", Some(33)),
-    (b"BAY1", b"MMXU1$MX$TotW$mag$i", Some(38)),
-    (b"BAY2", b"MMXU1$MX$TotW$mag$i", Some(43)),
+    (b"BAY1", b"XCBR1$ST$Pos", Some(20)),
+    (b"BAY1", b"XCBR1$CO$Pos$Oper$origin$orIdent", Some(28)),
+    (b"BAY1", b"XCBR1$CF$Pos$ctlModel", Some(35)),
+    (b"BAY1", b"MMXU1$MX$TotW$mag$i", Some(40)),
+    (b"BAY2", b"MMXU1$MX$TotW$mag$i", Some(45)),
     (b"BAY2", b"XCBR1$ST$Pos", None),
     (b"BAY1", b"XCBR1$ST$Po", None),
     (b"BAY", b"LLN0", None),

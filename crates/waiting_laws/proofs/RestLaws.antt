@@ -82,23 +82,23 @@ module _ (c : Model) where
   quiet : (d : Deed) → ((a : ℕ) → is_giving a d ≡ false) → (n m : ℕ) (past : Past) → Gives c (point n m d) past
   quiet d not n m past a is = absurd (never (sym (not a) ∙ is))
 
-  of-singles : (n m : ℕ) (past : Past) → OfSingles c (arrival n m ∷ past) (λ d. Gives c (point n m d) past)
-  of-singles n m past = record {
+  of-singles : (n m a : ℕ) (past : Past) → OfSingles c a (arrival n m ∷ past) (λ d. Gives c (point n m d) past)
+  of-singles n m a past = record {
     of_nothing = quiet nothing (λ a. refl) n m past;
-    of_wrote = λ a b comp v free. quiet (points.wrote a b comp v) (λ a. refl) n m past;
-    of_put = λ a x v is. quiet (points.put a x v) (λ a. refl) n m past;
-    of_copied = λ a x v. quiet (points.copied a x v) (λ a. refl) n m past;
-    of_activated = λ a d i. quiet (points.activated a d i) (λ a. refl) n m past;
-    of_edited = λ a d i free. quiet (points.edited a d i) (λ a. refl) n m past;
-    of_confirmed = λ a d is. quiet (points.confirmed a d) (λ a. refl) n m past;
-    of_called = λ a k j v. quiet (points.called a k j v) (λ a. refl) n m past;
-    of_selected = λ a k. quiet (points.selected_control a k) (λ a. refl) n m past;
+    of_wrote = λ b comp v free. quiet (points.wrote a b comp v) (λ a. refl) n m past;
+    of_put = λ x v is. quiet (points.put a x v) (λ a. refl) n m past;
+    of_copied = λ x v. quiet (points.copied a x v) (λ a. refl) n m past;
+    of_activated = λ d i. quiet (points.activated a d i) (λ a. refl) n m past;
+    of_edited = λ d i free. quiet (points.edited a d i) (λ a. refl) n m past;
+    of_confirmed = λ d is. quiet (points.confirmed a d) (λ a. refl) n m past;
+    of_called = λ k j v. quiet (points.called a k j v) (λ a. refl) n m past;
+    of_selected = λ k. quiet (points.selected_control a k) (λ a. refl) n m past;
   }
 
   singles : (a n m : ℕ) (ss : List Single) (past : Past) → Every (Gives c) past → Every (Gives c) (after_singles c a n m ss past)
   singles a n m [] past h = h
   singles a n m (s ∷ ss) past h = singles a n m ss (after_single c a n m s past)
-      (h, outcome c (arrival n m ∷ past) (λ d. Gives c (point n m d) past) (of-singles n m past) a s)
+      (h, outcome c a (arrival n m ∷ past) (λ d. Gives c (point n m d) past) (of-singles n m a past) s)
 
   own : (a b : ℕ) (w : Waiting) (ws : List Waiting) (past : Past) → waiting c a past ≡ w ∷ ws → (a == b) ≡ true → 1 ≤ length (waiting c b past)
   own a b w ws past first is = subst (λ x. 1 ≤ length (waiting c x past)) (same-of a b is) (omega (arith, ap length first))
@@ -121,9 +121,9 @@ module _ (c : Model) where
     singles a.0 n t.moment (singles_of c past r.service) past h,
     quiet (points.answered a.0 (output_for c n t.moment a.0 r past) (change_of c past r.service)) (λ a. refl) n t.moment (after_singles c a.0 n t.moment (singles_of c past r.service) past),
   )
-  turn n t past (steps.Write a b comp v) h = (h, component_ c (arrival n t.moment ∷ past) (λ d. Gives c (point n t.moment d) past) (of-singles n t.moment past) a.0 b.0 comp v)
+  turn n t past (steps.Write a b comp v) h = (h, component_ c a.0 (arrival n t.moment ∷ past) (λ d. Gives c (point n t.moment d) past) (of-singles n t.moment a.0 past) b.0 comp v)
   turn n t past (steps.Take a) h = (h, takes a.0 n t.moment past)
-  turn n t past (steps.Open a size writer) h = (h, quiet (points.opened a.0 t.actor writer.0 size) (λ a. refl) n t.moment past)
+  turn n t past (steps.Open a size writer owner) h = (h, quiet (points.opened a.0 t.actor writer.0 size owner) (λ a. refl) n t.moment past)
   turn n t past (steps.Lost a) h = (h, quiet (points.lost a.0) (λ a. refl) n t.moment past)
   turn n t past (steps.Value settings) h = (h, quiet (points.valued settings) (λ a. refl) n t.moment past)
   turn n t past (steps.Done k good) h = (h, quiet (points.finished k.0 good) (λ a. refl) n t.moment past)

@@ -67,17 +67,17 @@ module _ (c : Model) where
   mute : (a n m : ℕ) (d : Deed) (past : Past) → IsMute n past d → waiting_replies c a (point n m d ∷ past) ≤ waiting_replies c a past
   mute a n m d past none = omega (arith, grows a n m d past, none a)
 
-  of-singles : (n m : ℕ) (past : Past) → OfSingles c (arrival n m ∷ past) (IsMute n past)
-  of-singles n m past = record {
+  of-singles : (n m e : ℕ) (past : Past) → OfSingles c e (arrival n m ∷ past) (IsMute n past)
+  of-singles n m e past = record {
     of_nothing = λ a. refl;
-    of_wrote = λ e b comp v free a. refl;
-    of_put = λ e x v is a. refl;
-    of_copied = λ e x v a. refl;
-    of_activated = λ e d i a. refl;
-    of_edited = λ e d i free a. refl;
-    of_confirmed = λ e d is a. refl;
-    of_called = λ e k j v a. refl;
-    of_selected = λ e k a. refl;
+    of_wrote = λ b comp v free a. refl;
+    of_put = λ x v is a. refl;
+    of_copied = λ x v a. refl;
+    of_activated = λ d i a. refl;
+    of_edited = λ d i free a. refl;
+    of_confirmed = λ d is a. refl;
+    of_called = λ k j v a. refl;
+    of_selected = λ k a. refl;
   }
 
   singles : (a e n m : ℕ) (ss : List Single) (past : Past) → waiting_replies c a (after_singles c e n m ss past) ≤ waiting_replies c a past
@@ -85,7 +85,7 @@ module _ (c : Model) where
   singles a e n m (s ∷ ss) past = omega (
     arith,
     singles a e n m ss (after_single c e n m s past),
-    mute a n m _ past (outcome c (arrival n m ∷ past) (IsMute n past) (of-singles n m past) e s),
+    mute a n m _ past (outcome c e (arrival n m ∷ past) (IsMute n past) (of-singles n m e past) s),
   )
 
   takes : (a n m : ℕ) (past : Past) → IsMute n past (taken c a (arrival n m ∷ past)).deed
@@ -128,9 +128,9 @@ turn c n t (steps.Ask e r) past few none a = asks (after_singles c e.0 n t.momen
     less,
     reply-for c a e.0 n o ch after (waiting_replies c a past) (λ same. subst (λ b. suc (waiting_replies c b past) ≤ 16) (sym same) (has-room (ends e.0 past) e.0 (waiting_replies c e.0 past) (λ x. t.actor == x.opener) none)) (few a),
   )
-turn c n t (steps.Write e b comp v) past few none a = omega (arith, few a, mute c a n t.moment _ past (component_ c (arrival n t.moment ∷ past) (IsMute c n past) (of-singles c n t.moment past) e.0 b.0 comp v))
+turn c n t (steps.Write e b comp v) past few none a = omega (arith, few a, mute c a n t.moment _ past (component_ c e.0 (arrival n t.moment ∷ past) (IsMute c n past) (of-singles c n t.moment e.0 past) b.0 comp v))
 turn c n t (steps.Take e) past few none a = omega (arith, few a, mute c a n t.moment _ past (takes c e.0 n t.moment past))
-turn c n t (steps.Open e size writer) past few none a = omega (arith, few a, mute c a n t.moment (points.opened e.0 t.actor writer.0 size) past (λ b. refl))
+turn c n t (steps.Open e size writer owner) past few none a = omega (arith, few a, mute c a n t.moment (points.opened e.0 t.actor writer.0 size owner) past (λ b. refl))
 turn c n t (steps.Lost e) past few none a = omega (arith, few a, mute c a n t.moment (points.lost e.0) past (λ b. refl))
 turn c n t (steps.Value settings) past few none a = omega (arith, few a, mute c a n t.moment (points.valued settings) past (λ b. refl))
 turn c n t (steps.Done k good) past few none a = omega (arith, few a, mute c a n t.moment (finished k.0 good) past (λ b. replies-ended b k.0 good (execution c k.0 past)))

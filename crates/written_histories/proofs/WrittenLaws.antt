@@ -13,7 +13,7 @@ abbrev turn_of : ℕ → ℕ → Step → Turn
 turn_of m k s = record { moment = m; actor = k; step = s }
 
 turned_by : (c : Model) (n m k : ℕ) (past : Past) (s : Step) → turned c n (turn_of m (actor_of k s) s) past ≡ turned c n (turn_of m k s) past
-turned_by c n m k past (steps.Open a size writer) = refl
+turned_by c n m k past (steps.Open a size writer owner) = refl
 turned_by c n m k past (steps.Ask a r) = refl
 turned_by c n m k past (steps.Write a b comp v) = refl
 turned_by c n m k past (steps.Take a) = refl
@@ -24,7 +24,7 @@ turned_by c n m k past (steps.Block x flag) = refl
 turned_by c n m k past steps.Tick = refl
 
 answered_by : (c : Model) (n m k : ℕ) (past : Past) (s : Step) → answer_at c n (turn_of m (actor_of k s) s) past s ≡ answer_at c n (turn_of m k s) past s
-answered_by c n m k past (steps.Open a size writer) = refl
+answered_by c n m k past (steps.Open a size writer owner) = refl
 answered_by c n m k past (steps.Ask a r) = refl
 answered_by c n m k past (steps.Write a b comp v) = refl
 answered_by c n m k past (steps.Take a) = refl
@@ -35,7 +35,7 @@ answered_by c n m k past (steps.Block x flag) = refl
 answered_by c n m k past steps.Tick = refl
 
 refused_by : (c : Model) (k : ℕ) (past : Past) (s : Step) → fault_at c (actor_of k s) past s ≡ fault_at c k past s
-refused_by c k past (steps.Open a size writer) = refl
+refused_by c k past (steps.Open a size writer owner) = refl
 refused_by c k past (steps.Ask a r) = refl
 refused_by c k past (steps.Write a b comp v) = refl
 refused_by c k past (steps.Take a) = refl

@@ -32,9 +32,11 @@ answer_members-requires c =
     let same : length c.in-Some.nodes.items ≡ length (values_of c.args.values.now) = omega (arith, c.if-len.false, c.len-2.ensures, c.len.ensures, c.as_slice.ensures.len, ap (λ (l : List NodeId). length l) c.as_slice.ensures.value) in
     let served = subst (λ (t : State). AreServedSets t.config t.book) c.self.view_is c.self.invariant.furnished.booked.served in
     record {
+      number = c.requires.number;
+      is_open = c.requires.is_open;
       fit = subst (λ (ns : List NodeId). AreMembersFit c.args.self.now.config ns c.as_slice-2.result.now) (sym c.as_slice.ensures.value)
           (subst (λ (vs : List Value). AreMembersFit c.args.self.now.config c.in-Some.nodes.items vs) (sym c.as_slice-2.ensures.items)
-          (members-fit c.args.self.now c.args.domain.now c.args.item.now c.args.values.now c.in-Some.nodes.items served c.requires some (equal-number (length c.in-Some.nodes.items) (length (values_of c.args.values.now)) same)));
+          (members-fit c.args.self.now c.args.domain.now c.args.item.now c.args.values.now c.in-Some.nodes.items served c.requires.fits some (equal-number (length c.in-Some.nodes.items) (length (values_of c.args.values.now)) same)));
       plain = subst (AreNoCommands c.args.self.now.config) (sym c.as_slice.ensures.value) (members-uncalled c.args.self.now c.args.domain.now c.args.item.now c.in-Some.nodes.items served some);
     }
 

@@ -5,6 +5,7 @@ use Rattle.bay_model.specs.Singles.{write_of}
 use Rattle.bay_queues.specs.Heard.{Heard, unheard}
 use Rattle.bay_core.specs.Asked.{AreFit}
 use Rattle.bay_core.specs.Commanded.{AreSingles, blame_to}
+use Rattle.bay_core.specs.Put.{IsOpenAt}
 use Rattle.bay_core.specs.State.{State}
 use Rattle.bay_core.proofs.AnswerLaws.{writes-fit}
 use Rattle.bay_core.proofs.CameLaws.{writes-come}
@@ -12,6 +13,9 @@ use Rattle.bay_core.proofs.bay.Bay.answer_writes.Goals as goal
 
 pub blames-requires : goal.blames-requires
 blames-requires c = subst (AreFit c.args.self.now.config) (sym c.as_slice.ensures) (writes-fit c.args.self.now.config c.args.writes.now c.requires.fits)
+
+pub write_all-requires-clause-is_open : goal.write_all-requires-clause-is_open
+write_all-requires-clause-is_open c = subst (λ (t : State). IsOpenAt t c.args.a.0) (sym c.arrive.ensures.state) c.requires.is_open
 
 pub write_all-requires-clause-fit : goal.write_all-requires-clause-fit
 write_all-requires-clause-fit c =

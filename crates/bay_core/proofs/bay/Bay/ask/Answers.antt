@@ -6,7 +6,9 @@ use Rattle.bay_model.specs.declared.answer.Answer.TheVariants as answers
 use Rattle.assoc_table.specs.declared.waiting.Ends.{Ends}
 use Rattle.assoc_table.specs.Seats.{Row, replies}
 use Rattle.assoc_table.specs.Tables.{row_of}
+use Rattle.bay_core.specs.Put.{IsOpenAt}
 use Rattle.bay_core.specs.State.{State}
+use Rattle.bay_core.proofs.EndLaws.{opened-by}
 use Rattle.bay_core.proofs.AskLaws.{asked-for, fine-for, full-for}
 use Rattle.bay_core.proofs.bay.Bay.ask.Goals as goal
 
@@ -18,6 +20,10 @@ returns-then-is_full-clause-does c = (
       let full = subst (λ (t : State). nat_le 16 (replies (row_of t.rows c.args.a.0).waiting) ≡ true) c.self.view_is (sym c.is_full.ensures ∙ c.if-is_full.true) in
       full-for c.args.self.now c' h c.args.moment c.args.actor c.args.a c.args.request.now c.in-Some.opener c.requires.number was is c.if-actor-opener.false full,
 )
+
+pub answer-requires-clause-is_open : goal.answer-requires-clause-is_open
+answer-requires-clause-is_open c = subst (λ (t : State). IsOpenAt t c.args.a.0) c.self.view_is
+    (opened-by c.self.inside.associations.rows c.args.a.0 c.in-Some.opener (sym c.opener.ensures ∙ c.in-Some.is))
 
 pub returns-in-Err-clause-does : goal.returns-in-Err-clause-does
 returns-in-Err-clause-does c = (

@@ -1,5 +1,6 @@
 -- why `bay::Bay::write_all` answers as its contract says
-use Rattle.std.proofs.Common.{◌∙◌, List, None, Option, map, take, ap, sym, subst, arith, add-one, slice_index_or}
+use Rattle.std.proofs.Common.{◌≡◌, ◌∙◌, List, None, Option, map, take, ap, sym, subst, arith, add-one, slice_index_or}
+use Rattle.std.specs.Prelude.{true, is_some}
 use Rattle.std.proofs.lemmas.List.{length-set, take_all}
 use Rattle.std.proofs.lemmas.Option.{slice_get-get_or}
 use Rattle.list_laws.proofs.Places.{at_any}
@@ -7,11 +8,16 @@ use Rattle.sv_base.specs.declared.config.Config.{Config}
 use Rattle.bay_model.specs.declared.control.ApplError.{ApplError}
 use Rattle.bay_model.specs.declared.request.Write.{Write}
 use Rattle.bay_model.specs.Singles.{Single, outcome_of, write_of, write_to}
+use Rattle.assoc_table.specs.Seats.{Row}
+use Rattle.assoc_table.specs.Tables.{row_of}
 use Rattle.bay_core.specs.Commanded.{AreSingles, IsSingle, blame_to}
 use Rattle.bay_core.proofs.BlameLaws.{blame-at, left-blames}
 use Rattle.bay_core.proofs.SingleLaws.{variables-more}
 use Rattle.bay_core.proofs.CalledLaws.{one-single-more}
 use Rattle.bay_core.proofs.bay.Bay.write_all.Goals as goal
+
+pub write_target-requires-clause-is_open : goal.write_target-requires-clause-is_open
+write_target-requires-clause-is_open c = subst (λ (rows : List Row). is_some (row_of rows c.args.a.0).ends ≡ true) (sym c.loop-i.invariant.singles.kept.rows) c.requires.is_open
 
 pub write_target-requires-clause-blame : goal.write_target-requires-clause-blame
 write_target-requires-clause-blame c =

@@ -13,8 +13,9 @@ use Rattle.report_block.specs.Alls.{all_pieces, for_general}
 use Rattle.report_block.specs.Components.{after_writing}
 use Rattle.report_block.specs.Due.{IsBefore}
 use Rattle.report_block.specs.Writes.{without_effect, write_answer}
-use Rattle.bay_core.specs.Put.{answer_at, written_at}
+use Rattle.bay_core.specs.Put.{answer_at, written_at, IsOpenAt}
 use Rattle.bay_core.specs.State.{State}
+use Rattle.bay_core.specs.Written.{named_by}
 use Rattle.block_events.specs.Timed.{AreQuietUntil}
 use Rattle.block_watch.specs.Watched.{members_in}
 use Rattle.block_events.proofs.QuietLaws.{quiet-set}
@@ -26,6 +27,9 @@ use Rattle.bay_core.proofs.SettingLaws.{are-ready, have-members}
 use Rattle.block_watch.proofs.WatchLaws.{at-place}
 use Rattle.bay_core.proofs.bay.Bay.write_at_arrival.Goals as goal
 
+pub owner_of-requires-clause-is_open : goal.owner_of-requires-clause-is_open
+owner_of-requires-clause-is_open c = subst (λ (t : State). IsOpenAt t c.args.a.0) (sym c.self.view_is) c.requires.is_open
+
 pub set_of-set-requires : goal.set_of-set-requires
 set_of-set-requires c =
     let s = c.self.inside in
@@ -33,7 +37,7 @@ set_of-set-requires c =
     let b = c.args.b.0 in
     let part = c.index_mut-part.result.now in
     let fit = c.self.invariant.furnished in
-    let below : b < length parts = subst (λ (t : State). b < length t.parts) (sym c.self.view_is) c.requires in
+    let below : b < length parts = subst (λ (t : State). b < length t.parts) (sym c.self.view_is) c.requires.there in
     let there = at-place parts b part below c.index_mut-part.ensures.value in
     part-lent s.model s.sets fit.booked.served part (fit.sets b part there)
 
@@ -44,7 +48,7 @@ write_any-answer-requires-clause-few c =
     let b = c.args.b.0 in
     let part = c.index_mut-part.result.now in
     let fit = c.self.invariant.furnished in
-    let below : b < length parts = subst (λ (t : State). b < length t.parts) (sym c.self.view_is) c.requires in
+    let below : b < length parts = subst (λ (t : State). b < length t.parts) (sym c.self.view_is) c.requires.there in
     let there = at-place parts b part below c.index_mut-part.ensures.value in
     let ready = all-at (IsReady (node_rows s.model) s.sets s.values) parts b part (are-ready s.model (node_rows s.model) s.values s.values s.sets parts s.watch s.octets (vec_capacity s.changes) refl fit fit.values) there in
     omega (arith, ap (λ (l : List MemberShape). length l) c.set_of-set.ensures, ready.few)
@@ -56,7 +60,7 @@ write_any-answer-requires-clause-members c =
     let b = c.args.b.0 in
     let part = c.index_mut-part.result.now in
     let fit = c.self.invariant.furnished in
-    let below : b < length parts = subst (λ (t : State). b < length t.parts) (sym c.self.view_is) c.requires in
+    let below : b < length parts = subst (λ (t : State). b < length t.parts) (sym c.self.view_is) c.requires.there in
     let there = at-place parts b part below c.index_mut-part.ensures.value in
     let ready = all-at (IsReady (node_rows s.model) s.sets s.values) parts b part (are-ready s.model (node_rows s.model) s.values s.values s.sets parts s.watch s.octets (vec_capacity s.changes) refl fit fit.values) there in
     subst (λ (l : List Stored). All (IsWritable l) c.set_of-set.result) (sym c.store.ensures) (subst (All (IsWritable s.values)) (sym c.set_of-set.ensures) ready.writable)
@@ -68,7 +72,7 @@ write_any-answer-requires-clause-room c =
     let b = c.args.b.0 in
     let part = c.index_mut-part.result.now in
     let fit = c.self.invariant.furnished in
-    let below : b < length parts = subst (λ (t : State). b < length t.parts) (sym c.self.view_is) c.requires in
+    let below : b < length parts = subst (λ (t : State). b < length t.parts) (sym c.self.view_is) c.requires.there in
     let there = at-place parts b part below c.index_mut-part.ensures.value in
     let ready = all-at (IsReady (node_rows s.model) s.sets s.values) parts b part (are-ready s.model (node_rows s.model) s.values s.values s.sets parts s.watch s.octets (vec_capacity s.changes) refl fit fit.values) there in
     omega (arith, ap (λ (l : List MemberShape). length l) c.set_of-set.ensures, ready.few, fit.entry)
@@ -80,7 +84,7 @@ write_any-answer-requires-clause-window c =
     let b = c.args.b.0 in
     let part = c.index_mut-part.result.now in
     let fit = c.self.invariant.furnished in
-    let below : b < length parts = subst (λ (t : State). b < length t.parts) (sym c.self.view_is) c.requires in
+    let below : b < length parts = subst (λ (t : State). b < length t.parts) (sym c.self.view_is) c.requires.there in
     let there = at-place parts b part below c.index_mut-part.ensures.value in
     let ready = all-at (IsReady (node_rows s.model) s.sets s.values) parts b part (are-ready s.model (node_rows s.model) s.values s.values s.sets parts s.watch s.octets (vec_capacity s.changes) refl fit fit.values) there in
     omega (arith, ready.gathers, fit.entry)
@@ -92,14 +96,15 @@ follow-requires c =
     let b = c.args.b.0 in
     let part = c.index_mut-part.result.now in
     let fit = c.self.invariant.furnished in
-    let below : b < length parts = subst (λ (t : State). b < length t.parts) (sym c.self.view_is) c.requires in
+    let below : b < length parts = subst (λ (t : State). b < length t.parts) (sym c.self.view_is) c.requires.there in
     let there = at-place parts b part below c.index_mut-part.ensures.value in
     let v = c.args.value.now in
+    let o = c.owner_of.result in
     let named = c.set_named.result in
     let all = all_pieces s.values (members_in (node_rows s.model) s.sets part) for_general in
-    let kept : c.write_any-answer.new.self ≡ after_writing c.args.a c.args.comp v named s.latest s.steps all part (write_answer c.args.a c.args.comp v named part)
-    = c.write_any-answer.ensures.written ∙ ap₂ (λ (st : List Stored) (l : List MemberShape). after_writing c.args.a c.args.comp v named s.latest s.steps (all_pieces st l for_general) part (write_answer c.args.a c.args.comp v named part)) c.store.ensures c.set_of-set.ensures in
-    let wrote = written-at s.model s.values s.sets parts s.watch s.octets (vec_capacity s.changes) fit b part c.write_any-answer.new.self there c.args.a c.args.comp v named all c.set_named.ensures s.latest s.steps kept in
+    let kept : c.write_any-answer.new.self ≡ after_writing c.args.a o c.args.comp v named s.latest s.steps all part (write_answer c.args.a o s.latest c.args.comp v named part)
+    = c.write_any-answer.ensures.written ∙ ap₂ (λ (st : List Stored) (l : List MemberShape). after_writing c.args.a o c.args.comp v named s.latest s.steps (all_pieces st l for_general) part (write_answer c.args.a o s.latest c.args.comp v named part)) c.store.ensures c.set_of-set.ensures in
+    let wrote = written-at s.model s.values s.sets parts s.watch s.octets (vec_capacity s.changes) fit b part c.write_any-answer.new.self there c.args.a o c.args.comp v named all c.set_named.ensures s.latest s.steps kept in
     wrote.follows
 
 pub invariant_of-self : goal.invariant_of-self
@@ -109,14 +114,15 @@ invariant_of-self c =
     let b = c.args.b.0 in
     let part = c.index_mut-part.result.now in
     let fit = c.self.invariant.furnished in
-    let below : b < length parts = subst (λ (t : State). b < length t.parts) (sym c.self.view_is) c.requires in
+    let below : b < length parts = subst (λ (t : State). b < length t.parts) (sym c.self.view_is) c.requires.there in
     let there = at-place parts b part below c.index_mut-part.ensures.value in
     let v = c.args.value.now in
+    let o = c.owner_of.result in
     let named = c.set_named.result in
     let all = all_pieces s.values (members_in (node_rows s.model) s.sets part) for_general in
-    let kept : c.write_any-answer.new.self ≡ after_writing c.args.a c.args.comp v named s.latest s.steps all part (write_answer c.args.a c.args.comp v named part)
-    = c.write_any-answer.ensures.written ∙ ap₂ (λ (st : List Stored) (l : List MemberShape). after_writing c.args.a c.args.comp v named s.latest s.steps (all_pieces st l for_general) part (write_answer c.args.a c.args.comp v named part)) c.store.ensures c.set_of-set.ensures in
-    let wrote = written-at s.model s.values s.sets parts s.watch s.octets (vec_capacity s.changes) fit b part c.write_any-answer.new.self there c.args.a c.args.comp v named all c.set_named.ensures s.latest s.steps kept in
+    let kept : c.write_any-answer.new.self ≡ after_writing c.args.a o c.args.comp v named s.latest s.steps all part (write_answer c.args.a o s.latest c.args.comp v named part)
+    = c.write_any-answer.ensures.written ∙ ap₂ (λ (st : List Stored) (l : List MemberShape). after_writing c.args.a o c.args.comp v named s.latest s.steps (all_pieces st l for_general) part (write_answer c.args.a o s.latest c.args.comp v named part)) c.store.ensures c.set_of-set.ensures in
+    let wrote = written-at s.model s.values s.sets parts s.watch s.octets (vec_capacity s.changes) fit b part c.write_any-answer.new.self there c.args.a o c.args.comp v named all c.set_named.ensures s.latest s.steps kept in
     let f = wrote.furnished c.follow.new.self c.follow.ensures.index c.follow.ensures.notes c.follow.ensures.options in
     let new = c.write_any-answer.new.self in
     record {
@@ -135,13 +141,14 @@ returns-clause-answer c = λ own found.
     let b = c.args.b.0 in
     let part = c.index_mut-part.result.now in
     let fit = c.self.invariant.furnished in
-    let below : b < length parts = subst (λ (t : State). b < length t.parts) (sym c.self.view_is) c.requires in
+    let below : b < length parts = subst (λ (t : State). b < length t.parts) (sym c.self.view_is) c.requires.there in
     let there = at-place parts b part below c.index_mut-part.ensures.value in
     let v = c.args.value.now in
     let same = same-part parts b part own there (subst (λ (t : State). slice_get t.parts b ≡ Some own) (sym c.self.view_is) found) in
     let is_named = c.set_named.ensures in
     c.write_any-answer.ensures.answer
-    ∙ (ap₂ (λ (n : Option ℕ) (p : ReportBlock). without_effect (write_answer c.args.a c.args.comp v n p)) is_named same
+    ∙ (ap₂ (λ (n : Option ℕ) (p : ReportBlock). without_effect (write_answer c.args.a c.owner_of.result s.latest c.args.comp v n p)) is_named same
+    ∙ ap (λ (o : List ℕ). without_effect (write_answer c.args.a o s.latest c.args.comp v (named_by c.args.comp v s.sets) own)) c.owner_of.ensures
     ∙ ap (λ (t : State). without_effect (answer_at c.args.a c.args.comp v own t)) c.self.view_is)
 
 pub returns-clause-written : goal.returns-clause-written
@@ -151,17 +158,18 @@ returns-clause-written c = λ own found.
     let b = c.args.b.0 in
     let part = c.index_mut-part.result.now in
     let fit = c.self.invariant.furnished in
-    let below : b < length parts = subst (λ (t : State). b < length t.parts) (sym c.self.view_is) c.requires in
+    let below : b < length parts = subst (λ (t : State). b < length t.parts) (sym c.self.view_is) c.requires.there in
     let there = at-place parts b part below c.index_mut-part.ensures.value in
     let v = c.args.value.now in
+    let o = c.owner_of.result in
     let named = c.set_named.result in
     let all = all_pieces s.values (members_in (node_rows s.model) s.sets part) for_general in
-    let kept : c.write_any-answer.new.self ≡ after_writing c.args.a c.args.comp v named s.latest s.steps all part (write_answer c.args.a c.args.comp v named part)
-    = c.write_any-answer.ensures.written ∙ ap₂ (λ (st : List Stored) (l : List MemberShape). after_writing c.args.a c.args.comp v named s.latest s.steps (all_pieces st l for_general) part (write_answer c.args.a c.args.comp v named part)) c.store.ensures c.set_of-set.ensures in
+    let kept : c.write_any-answer.new.self ≡ after_writing c.args.a o c.args.comp v named s.latest s.steps all part (write_answer c.args.a o s.latest c.args.comp v named part)
+    = c.write_any-answer.ensures.written ∙ ap₂ (λ (st : List Stored) (l : List MemberShape). after_writing c.args.a o c.args.comp v named s.latest s.steps (all_pieces st l for_general) part (write_answer c.args.a o s.latest c.args.comp v named part)) c.store.ensures c.set_of-set.ensures in
     let same = same-part parts b part own there (subst (λ (t : State). slice_get t.parts b ≡ Some own) (sym c.self.view_is) found) in
-    let with : Option ℕ → ReportBlock → ReportBlock
-    = λ n p. after_writing c.args.a c.args.comp v n s.latest s.steps (all_pieces s.values (members_in (node_rows s.model) s.sets p) for_general) p (write_answer c.args.a c.args.comp v n p) in
-    let is = kept ∙ ap₂ with c.set_named.ensures same in
+    let with : List ℕ → Option ℕ → ReportBlock → ReportBlock
+    = λ o n p. after_writing c.args.a o c.args.comp v n s.latest s.steps (all_pieces s.values (members_in (node_rows s.model) s.sets p) for_general) p (write_answer c.args.a o s.latest c.args.comp v n p) in
+    let is = kept ∙ (ap₂ (with o) c.set_named.ensures same ∙ ap (λ (owner : List ℕ). with owner (named_by c.args.comp v s.sets) own) c.owner_of.ensures) in
     ap (λ (p : ReportBlock). record { config = s.model; steps = s.steps; latest = s.latest; stored = s.values; book = s.sets; parts = slice_set parts b p; rows = s.associations.rows; groups = s.groups; controls = s.associations.table }) is
     ∙ ap (λ (t : State). written_at c.args.a b c.args.comp v own t) c.self.view_is
 

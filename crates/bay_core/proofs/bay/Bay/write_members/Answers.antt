@@ -1,14 +1,20 @@
 -- why `bay::Bay::write_members` answers as its contract says
-use Rattle.std.proofs.Common.{◌∙◌, ◌∷◌, ◌++◌, List, Result, [], ℕ, length, take, ap, ap₂, sym, subst, arith, add-one, length-append, slice_index_or}
+use Rattle.std.proofs.Common.{◌≡◌, ◌∙◌, ◌∷◌, ◌++◌, List, Result, [], ℕ, length, take, ap, ap₂, sym, subst, arith, add-one, length-append, slice_index_or}
+use Rattle.std.specs.Prelude.{true, is_some}
 use Rattle.std.proofs.lemmas.List.{take_all}
 use Rattle.std.proofs.lemmas.Option.{slice_get-get_or}
 use Rattle.sv_base.specs.declared.numbers.NodeId.{NodeId}
 use Rattle.sv_base.specs.declared.value.Value.{Value}
 use Rattle.bay_model.specs.Singles.{Single, writes, writes_of}
+use Rattle.assoc_table.specs.Seats.{Row}
+use Rattle.assoc_table.specs.Tables.{row_of}
 use Rattle.bay_core.specs.Asked.{AreWrites, node_numbers}
 use Rattle.bay_core.proofs.SingleLaws.{kept-on, members-more, one-write-more}
 use Rattle.block_watch.proofs.WatchLaws.{at-place}
 use Rattle.bay_core.proofs.bay.Bay.write_members.Goals as goal
+
+pub write_node-code-requires-clause-is_open : goal.write_node-code-requires-clause-is_open
+write_node-code-requires-clause-is_open c = subst (λ (rows : List Row). is_some (row_of rows c.args.a.0).ends ≡ true) (sym c.loop-i.invariant.kept.rows) c.requires.is_open
 
 pub loop-i-preserved : goal.loop-i-preserved
 loop-i-preserved c =

@@ -26,8 +26,8 @@ write_attribute-requires-clause-there c =
     let below : x < length (attributes s.model) = subst (λ (w : What). IsPlainRole (length (attributes s.model)) (length s.model.blocks) (length s.model.controls) (HasGroups s.model) (role_seen w)) c.in-Attribute.is (role-told s.model c.args.node.0 c.role_of.result fit.servable.grouped c.role_of.ensures) in
     subst (λ (t : State). x < length t.stored) c.self.view_is (omega (arith, below, fit.values.count))
 
-pub write_at_arrival-requires : goal.write_at_arrival-requires
-write_at_arrival-requires c =
+pub write_at_arrival-requires-clause-there : goal.write_at_arrival-requires-clause-there
+write_at_arrival-requires-clause-there c =
     let s = c.self.inside in
     let fit = c.self.invariant.furnished in
     let b = c.in-Component.b in
@@ -77,7 +77,7 @@ returns-in-Component-clause-written c =
     let role : single (component b c.in-Component.comp) ≡ (node_of (configured_model z.config) c.args.node.0).role
     = ap role_seen (sym c.in-Component.is) ∙ (c.role_of.ensures ∙ ap (λ (t : State). (node_of (configured_model t.config) c.args.node.0).role) c.self.view_is) in
     by-role z c.write_at_arrival.new.self c.args.a.0 c.args.node.0 c.args.value.now (single (component b c.in-Component.comp)) c.write_at_arrival.result role
-    (component-write z c.write_at_arrival.new.self c.args.a b c.in-Component.comp c.args.value.now part.0 c.write_at_arrival.result part.1 (c.write_at_arrival.ensures.general part.0 part.1) (c.write_at_arrival.ensures.answer part.0 part.1) (c.write_at_arrival.ensures.written part.0 part.1))
+    (component-write z c.write_at_arrival.new.self c.args.a b c.in-Component.comp c.args.value.now part.0 c.write_at_arrival.result c.requires.number c.requires.is_open part.1 (c.write_at_arrival.ensures.general part.0 part.1) (c.write_at_arrival.ensures.answer part.0 part.1) (c.write_at_arrival.ensures.written part.0 part.1))
 
 pub write_part-requires : goal.write_part-requires
 write_part-requires c =

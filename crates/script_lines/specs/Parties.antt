@@ -5,8 +5,8 @@ use Rattle.run_record.specs.declared.line.OpenForm.{OpenForm}
 use Rattle.run_record.specs.declared.line.OpenForm.TheVariants as forms
 use Rattle.run_record.specs.declared.line.RecLine.{RecLine}
 use Rattle.run_record.specs.declared.line.RecLine.TheVariants as lines
-use Rattle.script_lines.specs.declared.owner.Owner.{Owner}
-use Rattle.script_lines.specs.declared.owner.Owner.TheVariants as owners
+use Rattle.script_lines.specs.declared.party.Party.{Party}
+use Rattle.script_lines.specs.declared.party.Party.TheVariants as parties
 
 -- a stream is no form of a script
 abbrev pub is_no_stream : OpenForm → Bool
@@ -34,6 +34,6 @@ is_of_process (lines.Block control on) = true
 is_of_process lines.Tick = true
 is_of_process _ = false
 
-abbrev pub may_have : Owner → RecLine → Bool
-may_have (owners.Association own) line = is_of own line
-may_have owners.Process line = is_of_process line
+abbrev pub may_have : Party → RecLine → Bool
+may_have (parties.Association own) line = is_of own line
+may_have parties.Process line = is_of_process line
