@@ -33,10 +33,11 @@ use Rattle.assoc_table.specs.Standing.{HasAddress}
 use Rattle.assoc_table.specs.Tables.{IsNumber, row_of}
 use Rattle.brcb_state.specs.Changes.{effect_of, written}
 use Rattle.brcb_state.specs.Refusals.{answer_to, is_foreign, names_nothing, first_of, refusals}
-use Rattle.brcb_state.specs.Standing.{Stands as AttributesStand, outcome_of, after_deed, kept_at, is_known, is_general, is_purging}
+use Rattle.brcb_state.specs.Standing.{outcome_of, after_deed, kept_at, is_known, is_general, is_purging}
 use Rattle.brcb_state.specs.declared.block.Block.{Block}
 use Rattle.brcb_state.specs.declared.told.Effect.{Effect}
 use Rattle.brcb_state.specs.declared.told.Retained.{Retained}
+use Rattle.brcb_state.proofs.AnswerLaws.{answered}
 use Rattle.window_core.specs.Pieces.{Piece}
 use Rattle.window_core.specs.Points.{at}
 use Rattle.window_core.proofs.DeedLaws.{unbroken-unchanged}
@@ -93,10 +94,6 @@ known-told : (c : Config) (past : Past) (book : Book) (kept : Retained) (comp : 
 known-told c past book kept comps.DatSet (kinds.Text t) same = ap (λ k. not (is_empty t) && not k) (known-booked t book ∙ ap (λ all. is_some (set_referred t all)) same)
 known-told c past book kept comps.DatSet _ same = refl
 known-told c past book kept _ v same = refl
-
-answered : (m : Model) (a : AssocNo) (b : ℕ) (comp : Comp) (v : Value) (past : Past) (s : Block) → AttributesStand s m b past
-    → outcome_of (wrote a.0 b comp v) (answer_to a (is_foreign (address a.0 past) (now past) s) comp v (names_nothing (kept_at m b past) (is_known m past v) comp v) s) ≡ write_component m a.0 b comp v past
-answered m a b comp v past s st = search rules
 
 other-purges : (m : Model) (a b k : ℕ) (comp : Comp) (v : Value) (past : Past) → (b == k) ≡ false → purges m k (wrote a b comp v) past ≡ false
 other-purges m a b k comp v past other = search rules

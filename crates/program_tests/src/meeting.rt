@@ -1,13 +1,15 @@
 //! Gates by which two actors meet between their turns.
 
-use crate::rehearsals::rehearsed_gated;
 use record_outcome::status::Status;
-use std::alloc::AllocError;
+use server_run::rehearse_gated;
+use std::alloc::{AllocError, Global};
+use std::sync::Wait;
 use std::sync::atomic::{AtomicU64, Ordering};
 use std::test::*;
-use std::thread;
+use std::thread::{self, Threads};
 use std::time::Duration;
-use sv_io::Gate;
+use sv_base::Octs;
+use sv_io::{Calls, Gate, MemSink, MemSource};
 
 /// How often a gate rests at most, a millisecond each time.
 const RESTS: u32 = 10000;
@@ -58,20 +60,32 @@ fn gates<'a>(
     Ok(gates)
 }
 
+/// The process and an association, each of at least two turns.
+const SCRIPTS: &str = "rehearse 1\nconfig 1\nserver a b c\nld A\nln L\nattr ST x int8 - 0\nend\n\
+    script process\nset A/L$ST$x 1\nset A/L$ST$x 2\nset A/L$ST$x 3\nclose\n\
+    script association 1\nopen 1 direct\ntake 1\ntake 1\nclose\nend\n";
+
+/// All turns of the scripts go under these gates.
+fn all_go<R: Threads + Wait + Sync, G: Gate>(
+    rt: &R,
+    alloc: Global,
+    gates: Vec<G>,
+) -> Result<bool, AllocError> {
+    let octets = Octs::from_vec(Vec::from_slice(alloc, SCRIPTS.as_bytes())?);
+    let mut input = MemSource::new(octets, Calls::from_vec(Vec::new(alloc)));
+    let mut output = MemSink::new(alloc, Calls::from_vec(Vec::new(alloc)));
+    if gates.len() != 16 {
+        return Ok(false);
+    }
+    Ok(rehearse_gated(rt, alloc, gates, &mut input, &mut output) == Status::Ok)
+}
+
 #[test]
 fn actors_at_once(rt: HostRuntime) -> Result<(), Fail> {
-    let alloc = rt.alloc();
     let one = AtomicU64::new(0);
     let two = AtomicU64::new(0);
     let late = AtomicU64::new(0);
-    let met = rehearsed_gated(
-        &rt,
-        alloc,
-        gates(&rt, &one, &two, &late)?,
-        "rehearse 1\n[0 011001 0 200>script process\nset @ 1\nset @ 2\nset @ 3\nclose\n\
-         script association 1\nopen 1 direct\ntake 1\ntake 1\nclose\nend\n",
-    )?;
-    assert_eq!(rt; met, Some(Status::Ok));
-    assert_eq!(rt; late.load(Ordering::SeqCst), 0);
+    let met = all_go(&rt, rt.alloc(), gates(&rt, &one, &two, &late)?)?;
+    assert!(rt; met && late.load(Ordering::SeqCst) == 0);
     Ok(())
 }

@@ -1,6 +1,7 @@
 -- Values of lines, as they are read.
 use Rattle.std.proofs.Common.{◌≡◌, ◌∷◌, [], refl}
 use Rattle.std.specs.Prelude.{codes, pos, None, Some, true, false}
+use Rattle.std.specs.Fmt.{digits}
 use Rattle.sv_base.specs.declared.value.Value.TheVariants as values
 use Rattle.sv_base.specs.declared.components.Comp.TheVariants as comps
 use Rattle.text_words.specs.Numbers.{number_at}
@@ -28,9 +29,9 @@ unfolding shape_at marked_at
 bits = refl
 
 seconds : shape_at comps.ResvTms (codes "5") ≡ Some (values.Int (pos 5))
-unfolding shape_at marked_at number_at
+unfolding shape_at marked_at number_at digits
 seconds = refl
 
 unsigned : shape_at comps.BufTm (codes "5") ≡ Some (values.Uint 5)
-unfolding shape_at marked_at number_at
+unfolding shape_at marked_at number_at digits
 unsigned = refl

@@ -9,8 +9,6 @@ pub mod mem_sink;
 pub mod mem_source;
 pub mod outside;
 pub mod pieces;
-#[cfg(test)]
-mod tests;
 pub mod traits;
 pub mod whole;
 

@@ -1,0 +1,2 @@
+-- what is given to threads
+pub mod Closures

@@ -1,6 +1,0 @@
--- what the loops of `turns::worked` keep
-use Rattle.std.proofs.Common.{◌≡◌}
-use Rattle.lock_tests.proofs.turns.worked.Given as goal
-
-abbrev pub invariant-loop-n : goal.invariant-loop-n
-invariant-loop-n g l = (l.pass.table ≡ l.initial.pass.table) × (l.pass.config ≡ l.initial.pass.config)
