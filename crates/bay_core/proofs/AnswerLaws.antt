@@ -41,11 +41,11 @@ use Rattle.bay_config.specs.Servable.{IsServedSet}
 use Rattle.bay_replies.specs.Asking.{IsFitting, IsReading}
 use Rattle.bay_core.specs.Asked.{AreFit, AreMembersFit, AreWrites, AreWritten, IsAnswered, IsFit, IsReplyAt, node_numbers, set_members}
 use Rattle.bay_core.specs.Standing.{StandsAt}
-use Rattle.served_sets.specs.Served.{AreServedSets}
+use Rattle.block_watch.specs.Served.{AreServedSets}
 use Rattle.bay_core.specs.State.{State}
 use Rattle.bay_core.specs.Commanded.{AreNoCommands, CallsNothing}
 use Rattle.bay_core.proofs.AskLaws.{reads-stand, served-sets}
-use Rattle.served_sets.proofs.ShapeLaws.{all-served, found, sets_in}
+use Rattle.block_watch.proofs.ShapeLaws.{all-served, found, sets_in}
 use Rattle.bay_core.proofs.UncalledLaws.{IsPlainMember, members-plain}
 
 -- ---- a request that fits

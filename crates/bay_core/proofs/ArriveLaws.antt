@@ -43,7 +43,7 @@ use Rattle.report_block.specs.Standing.{Stands as BlockStands, BlocksStand}
 use Rattle.report_block.proofs.StandLaws.{arrival-stands}
 use Rattle.bay_config.specs.Servable.{IsServable}
 use Rattle.bay_core.specs.Standing.{StandsAt}
-use Rattle.served_sets.specs.Served.{AreServedSets}
+use Rattle.block_watch.specs.Served.{AreServedSets}
 use Rattle.bay_core.specs.State.{State, IsFurnished}
 use Rattle.bay_values.specs.Held.{AreHeld}
 use Rattle.block_watch.specs.declared.watch.Watch.{Watch}
@@ -53,7 +53,7 @@ use Rattle.block_watch.specs.Watched.{members_in}
 use Rattle.block_events.proofs.AllLaws.{all-are}
 use Rattle.bay_core.proofs.FurnishLaws.{furnished-map}
 use Rattle.bay_core.proofs.MoveLaws.{queued, queues-stand}
-use Rattle.served_sets.proofs.ShapeLaws.{served_members, sets_in}
+use Rattle.block_watch.proofs.ShapeLaws.{served_members, sets_in}
 
 -- each part has the members of the data set that its DatSet names
 abbrev pub HaveMembers : List NodeRow → Book → Config → List ReportBlock → Type 0

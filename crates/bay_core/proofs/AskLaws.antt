@@ -56,7 +56,7 @@ use Rattle.bay_core.specs.declared.asking.Came.{Came}
 use Rattle.bay_core.specs.Asked.{IsAnswered, IsReplied, replied}
 use Rattle.bay_core.specs.Came.{IsCome, put_after, replied_with}
 use Rattle.bay_core.specs.Commanded.{CallsNothing}
-use Rattle.served_sets.specs.Served.{AreServedSets}
+use Rattle.block_watch.specs.Served.{AreServedSets}
 use Rattle.bay_core.specs.State.{State}
 use Rattle.bay_core.specs.Standing.{StandsAt, StandsFor}
 use Rattle.bay_core.proofs.EndLaws.{opener-told}
@@ -64,7 +64,7 @@ use Rattle.bay_queues.proofs.HeardLaws.{quiet-among, tests-after}
 use Rattle.bay_core.proofs.MoveLaws.{counts, again, accepted-as, groups-quiet, queued, queues-stand}
 use Rattle.block_events.proofs.PartLaws.{parts-left}
 use Rattle.bay_queues.proofs.QueueLaws.{replies-told}
-use Rattle.served_sets.proofs.ShapeLaws.{all-served, found}
+use Rattle.block_watch.proofs.ShapeLaws.{all-served, found}
 use Rattle.bay_core.proofs.UncalledLaws.{member-plain, quiet-all, service-uncalled}
 use Rattle.bay_replies.proofs.PointLaws.{nothing-read}
 

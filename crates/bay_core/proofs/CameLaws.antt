@@ -23,7 +23,7 @@ use Rattle.bay_core.specs.Asked.{IsReplied}
 use Rattle.bay_core.specs.Came.{IsCome, replied_with}
 use Rattle.bay_core.specs.Commanded.{AreSingles, AreTestsOf, CallsNothing}
 use Rattle.bay_core.specs.Standing.{StandsAt}
-use Rattle.served_sets.specs.Served.{AreServedSets}
+use Rattle.block_watch.specs.Served.{AreServedSets}
 use Rattle.bay_core.specs.State.{State}
 use Rattle.bay_core.proofs.AskLaws.{answered-with, served-sets}
 use Rattle.bay_queues.proofs.HeardLaws.{acts-all, codes-all, errors-all, quiet-acts, quiet-among, quiet-errors, tests-after, tests-all, tests_among}

@@ -45,7 +45,7 @@ use Rattle.bay_core.specs.State.{IsBooked}
 use Rattle.block_watch.specs.Watched.{IsRoomier, IsWatching}
 use Rattle.bay_core.specs.Whole.{IsWhole}
 use Rattle.control_core.specs.Tables.{Table}
-use Rattle.served_sets.proofs.BookLaws.{number-there}
+use Rattle.block_watch.proofs.BookLaws.{number-there}
 use Rattle.block_watch.proofs.RoomLaws.{indexed-defined, indexed-roomier}
 use Rattle.list_laws.proofs.Truths.{not-false}
 use Rattle.list_laws.proofs.Options.{none_of}

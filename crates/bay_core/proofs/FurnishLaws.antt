@@ -14,8 +14,8 @@ use Rattle.report_block.specs.declared.block.ReportBlock.{ReportBlock}
 use Rattle.block_watch.specs.declared.watch.Watch.{Watch}
 use Rattle.bay_core.specs.State.{IsFurnished}
 use Rattle.block_watch.specs.Watched.{IsLent, IsWatching, members_in}
-use Rattle.served_sets.proofs.BookLaws.{part-lent, part-members}
-use Rattle.served_sets.proofs.ShapeLaws.{served_members}
+use Rattle.block_watch.proofs.BookLaws.{part-lent, part-members}
+use Rattle.block_watch.proofs.ShapeLaws.{served_members}
 use Rattle.block_watch.proofs.WatchLaws.{watching-map}
 
 module _ (c : Config) (stored : List Stored) (book : Book) (parts : List ReportBlock) (w : Watch) (octets : Filled ℕ) (room : ℕ) (old : IsFurnished c stored book parts w octets room) where

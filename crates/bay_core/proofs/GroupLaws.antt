@@ -54,7 +54,7 @@ use Rattle.bay_values.proofs.ChangeLaws.{IsThere, held-after}
 use Rattle.bay_values.proofs.GroupLaws.{active-typed, copy-sound}
 use Rattle.bay_core.specs.Asked.{IsWrite}
 use Rattle.bay_core.specs.Standing.{StandsAt}
-use Rattle.served_sets.specs.Served.{AreServedSets}
+use Rattle.block_watch.specs.Served.{AreServedSets}
 use Rattle.bay_core.specs.State.{State}
 use Rattle.bay_core.proofs.ArriveLaws.{HaveMembers}
 use Rattle.control_core.specs.Tables as tables

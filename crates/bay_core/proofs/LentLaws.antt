@@ -24,7 +24,7 @@ use Rattle.bay_core.specs.Asked.{IsReplyAt}
 use Rattle.bay_core.proofs.AskLaws.{size-told}
 use Rattle.bay_core.specs.State.{State, IsFurnished}
 use Rattle.block_watch.specs.declared.watch.Watch.{Watch}
-use Rattle.served_sets.proofs.BookLaws.{sets-allowed, sets-lent}
+use Rattle.block_watch.proofs.BookLaws.{sets-allowed, sets-lent}
 
 pub served-parts : (c : Config) (stored : List Stored) (groups : Grouped) (book : Book) (parts : List ReportBlock) (w : Watch) (octets : Filled ℕ) (room : ℕ) → IsFurnished c stored book parts w octets room → AreGrouped c groups → IsServed c stored groups parts book
 served-parts c stored groups book parts w octets room f fit = record {

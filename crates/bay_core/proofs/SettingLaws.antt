@@ -52,13 +52,13 @@ use Rattle.report_block.proofs.StandLaws.{deed-stands}
 use Rattle.report_block.specs.EntryOctets.{IsWritable}
 use Rattle.bay_config.specs.Servable.{IsServable}
 use Rattle.bay_core.specs.Standing.{StandsAt, StandsFor}
-use Rattle.served_sets.specs.Served.{AreServedSets}
+use Rattle.block_watch.specs.Served.{AreServedSets}
 use Rattle.bay_core.specs.State.{State, IsFurnished}
 use Rattle.bay_values.specs.Held.{AreHeld}
 use Rattle.block_watch.specs.declared.watch.Watch.{Watch}
 use Rattle.block_watch.specs.Watched.{IsIndexed, IsLent, IsWatching, AreBlank, members_in}
 use Rattle.std.proofs.lemmas.List.{length-map}
-use Rattle.served_sets.proofs.BookLaws.{part-lent, part-members}
+use Rattle.block_watch.proofs.BookLaws.{part-lent, part-members}
 use Rattle.bay_core.proofs.ArriveLaws.{HaveMembers}
 use Rattle.bay_values.proofs.ChangeLaws.{Sets, IsThere, values-stand, are-changes, settings-there, typed-settings, held-after}
 use Rattle.block_events.proofs.EventLaws.{note-kept, note-readable, all-writable}
@@ -66,7 +66,7 @@ use Rattle.bay_core.proofs.FurnishLaws.{furnished-map}
 use Rattle.control_core.specs.Tables as tables
 use Rattle.control_core.specs.Tables.{Table}
 use Rattle.bay_core.proofs.MoveLaws.{IsSilent, rows_after, came-quiet, counts, accepted-as}
-use Rattle.served_sets.proofs.ShapeLaws.{AreServed, node_shapes, nodes_named, served-few, served_members, served-set, sets_in, members-named, are-shapes}
+use Rattle.block_watch.proofs.ShapeLaws.{AreServed, node_shapes, nodes_named, served-few, served_members, served-set, sets_in, members-named, are-shapes}
 use Rattle.list_laws.proofs.Truths.{never as off}
 
 -- The deed sets attributes, as these settings have it: it is an event of the blocks, and touches nothing else.

@@ -64,7 +64,7 @@ use Rattle.report_block.specs.declared.block.ReportBlock.{ReportBlock}
 use Rattle.report_block.specs.Writes.{without_effect}
 use Rattle.trigger_core.specs.Noted.{change_of}
 use Rattle.bay_core.specs.Standing.{StandsAt}
-use Rattle.served_sets.specs.Served.{AreServedSets}
+use Rattle.block_watch.specs.Served.{AreServedSets}
 use Rattle.bay_core.specs.State.{State}
 use Rattle.bay_values.specs.Held.{AreHeld}
 use Rattle.bay_values.proofs.FirstValues.{kind-told}

@@ -48,13 +48,13 @@ use Rattle.brcb_state.specs.Changes.{after_report}
 use Rattle.block_reports.specs.Reporting.{report_by}
 use Rattle.bay_config.specs.Servable.{IsServable}
 use Rattle.bay_core.specs.Standing.{StandsAt, StandsFor}
-use Rattle.served_sets.specs.Served.{AreServedSets}
+use Rattle.block_watch.specs.Served.{AreServedSets}
 use Rattle.bay_core.specs.State.{State}
 use Rattle.bay_core.specs.Timed.{at_arrival}
 use Rattle.bay_core.proofs.MoveLaws.{queued, queues-stand, groups-quiet, passed, still, came-stand, counts, accepted-as}
 use Rattle.block_events.proofs.PartLaws.{AreLeft, parts-left}
 use Rattle.block_events.proofs.ServedLaws.{served-now}
-use Rattle.served_sets.proofs.ShapeLaws.{served_members}
+use Rattle.block_watch.proofs.ShapeLaws.{served_members}
 use Rattle.block_events.proofs.TakeLaws.{none, given, closed}
 
 -- after the report of an entry of block b

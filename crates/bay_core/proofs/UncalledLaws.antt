@@ -44,7 +44,7 @@ use Rattle.bay_replies.specs.Plain.{SelectsNothing}
 use Rattle.bay_replies.proofs.NodeLaws.{node-plain}
 use Rattle.bay_core.specs.Commanded.{CallsNothing, IsNoCommand}
 use Rattle.bay_queues.proofs.HeardLaws.{AreQuiet, IsQuiet}
-use Rattle.served_sets.proofs.ShapeLaws.{found}
+use Rattle.block_watch.proofs.ShapeLaws.{found}
 use Rattle.list_laws.proofs.Among.{each-of}
 
 -- ---- one outcome

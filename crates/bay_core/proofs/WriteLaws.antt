@@ -55,8 +55,8 @@ use Rattle.bay_core.specs.Put.{IsOpenAt, owner_at}
 use Rattle.bay_core.specs.State.{State}
 use Rattle.bay_core.specs.Standing.{StandsAt, StandsFor}
 use Rattle.bay_core.specs.Written.{named_by}
-use Rattle.served_sets.proofs.BookLaws.{known-booked}
-use Rattle.served_sets.proofs.ShapeLaws.{sets_in}
+use Rattle.block_watch.proofs.BookLaws.{known-booked}
+use Rattle.block_watch.proofs.ShapeLaws.{sets_in}
 use Rattle.block_watch.proofs.WatchLaws.{KeepsSet}
 use Rattle.bay_core.proofs.MoveLaws.{came-of, counts, accepted-as, groups-quiet}
 use Rattle.list_laws.proofs.Truths.{never, or-right}

@@ -22,8 +22,8 @@ use Rattle.block_watch.specs.declared.watch.Watch.{Watch}
 use Rattle.bay_core.specs.State.{IsFurnished}
 use Rattle.block_watch.specs.Watched.{IsFollowed, members_in, index_after}
 use Rattle.bay_core.specs.Written.{named_by}
-use Rattle.served_sets.proofs.BookLaws.{part-lent}
-use Rattle.served_sets.proofs.IndexLaws.{watchable}
+use Rattle.block_watch.proofs.BookLaws.{part-lent}
+use Rattle.block_watch.proofs.IndexLaws.{watchable}
 use Rattle.bay_core.proofs.FurnishLaws.{furnished-set}
 use Rattle.block_watch.proofs.WatchLaws.{KeepsSet, room-for, watching-written}
 use Rattle.bay_core.proofs.WriteLaws.{keeps-set, has-named, has-set, windows-stay}

@@ -16,7 +16,7 @@ use Rattle.report_block.specs.declared.block.ReportBlock.{ReportBlock}
 use Rattle.block_watch.specs.declared.watch.Watch.{Watch}
 use Rattle.block_watch.specs.Watched.{IsWatching}
 use Rattle.bay_config.specs.Servable.{IsServable}
-use Rattle.served_sets.specs.Served.{AreServedSets}
+use Rattle.block_watch.specs.Served.{AreServedSets}
 
 pub record State : Type 0 where
   pub config : Config

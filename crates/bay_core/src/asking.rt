@@ -11,9 +11,8 @@ use bay_model::{
     Act, Acts, Answer, ApplError, ApplErrors, Codes, Output, Reply, Request, Service, Writes,
 };
 use bay_queues::Heard;
-use bay_replies::Replies;
+use bay_replies::{Replies, set_name};
 use data_sets::SetBook;
-use reply_parts::set_name;
 use std::alloc::{AllocError, Global};
 use sv_base::{ActorNo, AssocNo, CtlNo, Moment, NodeId, Octs, Value, Values};
 

@@ -6,9 +6,9 @@ ghost use Rattle.data_sets.specs.Turns.{error_of};
 
 use crate::bay::Bay;
 use bay_model::{Reply, Targets};
+use bay_replies::set_name;
 use data_sets::{DefineFault, Definition};
-use reply_parts::set_name;
-use set_naming::is_set_name;
+use object_model::is_set_name;
 use std::alloc::{AllocError, Global};
 use sv_base::{AssocNo, Moment, Octs};
 

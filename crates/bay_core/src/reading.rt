@@ -14,9 +14,8 @@ ghost use Rattle.bay_core.specs.Turned.{after_turn, after_turns, empty_text, in_
 use crate::bay::Bay;
 use bay_model::{Asked, Reply, Results, Target, Targets};
 use bay_queues::Queues;
-use bay_replies::{Read, asked_variables};
+use bay_replies::{Read, are_too_long, asked_variables};
 use object_model::{Model, What};
-use reply_parts::are_too_long;
 use std::alloc::{AllocError, Global};
 use sv_base::{AssocNo, CtlNo, Moment, Octs, Value};
 

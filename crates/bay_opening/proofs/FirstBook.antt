@@ -12,8 +12,8 @@ use Rattle.object_model.specs.Tables.{node_id, set_row, set_rows}
 use Rattle.data_sets.specs.Books.{Book, booked, no_set, opened}
 use Rattle.data_sets.specs.Standing.{IsNamed, data_set}
 use Rattle.bay_config.specs.Servable.{IsReferred, IsServable, IsServedSet}
-use Rattle.served_sets.specs.Served.{AreServedSets}
-use Rattle.served_sets.proofs.BookLaws.{known-booked}
+use Rattle.block_watch.specs.Served.{AreServedSets}
+use Rattle.block_watch.proofs.BookLaws.{known-booked}
 
 -- ---- its sets are those of the model
 

@@ -23,8 +23,8 @@ use Rattle.window_core.specs.Windows.{Windowed, empty as empty_window}
 use Rattle.report_block.proofs.StandLaws.{opened}
 use Rattle.report_block.specs.declared.block.ReportBlock.{ReportBlock}
 use Rattle.block_watch.specs.Watched.{IsWatchable}
-use Rattle.served_sets.specs.Served.{AreServedSets}
-use Rattle.served_sets.proofs.IndexLaws.{watchable}
+use Rattle.block_watch.specs.Served.{AreServedSets}
+use Rattle.block_watch.proofs.IndexLaws.{watchable}
 use Rattle.bay_opening.specs.Opened.{PartSeen, seen, part_defined}
 use Rattle.bay_opening.proofs.FirstBook.{opened-served, referred-first}
 use Rattle.report_block.specs.Standing.{BlocksStand}

@@ -5,9 +5,9 @@ use Rattle.std.proofs.lemmas.List.{drop_all}
 use Rattle.sv_base.specs.declared.value.Value.{Value}
 use Rattle.bay_model.specs.declared.request.Target.{Target}
 use Rattle.bay_replies.specs.declared.replies.Replies.{Replies}
-use Rattle.reply_parts.specs.Held.{left_of}
+use Rattle.bay_replies.specs.Held.{left_of}
 use Rattle.bay_replies.specs.Reading.{early_len, early_read, early_reads, least_len, selecting_in}
-use Rattle.reply_parts.proofs.SizeLaws.{drop-one, none-left, some-left}
+use Rattle.bay_replies.proofs.SizeLaws.{drop-one, none-left, some-left}
 
 -- done are read, left is what is left behind the least that they are
 module _ (r : Replies) (size left k : ℕ) (ts : List Target) (done : List (Result Value ℕ)) (are : done ++ early_reads r (drop k ts) ≡ early_reads r ts) (count : least_len r ts + left ≡ size + least_len r (drop k ts)) where

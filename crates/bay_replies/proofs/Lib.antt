@@ -13,3 +13,5 @@ pub mod EarlyLaws
 pub mod ReplyLaws
 pub mod QuietLaws
 pub mod OpenedLaws
+-- results and names, as far as a PDU can hold them
+pub mod SizeLaws

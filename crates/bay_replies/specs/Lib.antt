@@ -9,3 +9,5 @@ pub mod Points
 pub mod Given
 pub mod Reading
 pub mod Replied
+-- results, as far as a PDU can hold them
+pub mod Held

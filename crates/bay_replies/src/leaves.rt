@@ -4,11 +4,11 @@
 ghost use Rattle.std.specs.Prelude.{◌≡◌, IfOk, option_copied};
 ghost use Rattle.bay_replies.specs.Given.{component_read};
 
+use crate::owned;
 use crate::replies::Replies;
 use bay_model::Comp;
 use node_reads::LeafValues;
 use object_model::Leaf;
-use reply_parts::owned;
 use report_block::ReportBlock;
 use std::alloc::{AllocError, Global};
 use sv_base::{AttrId, BlockNo, Moment, Value};

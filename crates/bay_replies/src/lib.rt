@@ -6,12 +6,20 @@
 mod replies;
 
 // names, variables and data sets
+mod copies;
 mod names;
 mod reads;
 mod sets;
 
-// what leaves read as
+pub use copies::{copy_targets, set_name};
+
+// what leaves read as, and how many octets a result takes
 mod leaves;
+mod sizes;
+mod values;
+
+pub use sizes::{are_too_long, left_behind, names_within, result_len};
+pub use values::owned;
 
 // laws
 mod laws;

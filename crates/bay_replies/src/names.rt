@@ -6,11 +6,11 @@ ghost use Rattle.std.specs.Str.{bytes_eq};
 ghost use Rattle.sv_base.specs.declared.config.LnDef.{LnDef as LnLine};
 ghost use Rattle.bay_replies.specs.Replied.{empty_if};
 
+use crate::names_within;
 use crate::replies::Replies;
 use bay_model::{Names, Reply, Scope};
 use name_order::{in_order, names_after};
 use object_model::domains;
-use reply_parts::names_within;
 use std::alloc::{AllocError, Global};
 use sv_base::{LnDef, Octs};
 

@@ -4,10 +4,10 @@ ghost use Rattle.std.specs.Prelude.{◌≡◌, IfOk};
 ghost use Rattle.bay_model.specs.Configured.{control_defined};
 
 use crate::replies::Replies;
+use crate::{left_behind, result_len};
 use bay_model::{Results, Target};
 use node_reads::read_node;
 use object_model::What;
-use reply_parts::{left_behind, result_len};
 use std::alloc::{AllocError, Global};
 use sv_base::{CtlDef, NodeId, Octs, Value};
 
@@ -42,7 +42,7 @@ impl<'a> Replies<'a> {
     ghost use Rattle.bay_model.specs.Named.{nodes as nodes_of};
     ghost use Rattle.set_view.specs.Shapes.{AreThere};
     ghost use Rattle.bay_replies.specs.Given.{node_read, target_read};
-    ghost use Rattle.reply_parts.specs.Held.{held_within};
+    ghost use Rattle.bay_replies.specs.Held.{held_within};
     ghost use Rattle.bay_replies.specs.Reading.{reference_read, selecting_in, IsEarly, IsRead, IsTarget};
 
     /// The control whose SBO a variable is.

@@ -4,10 +4,10 @@ ghost use Rattle.std.specs.Prelude.{◌≡◌, IfOk, if◌then◌else◌};
 ghost use Rattle.bay_model.specs.declared.reply.Asked.TheVariants as asked;
 ghost use Rattle.bay_model.specs.Services.{type_reply};
 
+use crate::copy_targets;
 use bay_model::{Asked, Reply, Service, Target, Targets};
 use data_sets::SetBook;
 use object_model::Model;
-use reply_parts::copy_targets;
 use report_block::ReportBlock;
 use setting_groups::Groups;
 use std::alloc::{AllocError, Global};

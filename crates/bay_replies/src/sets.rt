@@ -3,13 +3,13 @@
 ghost use Rattle.std.specs.Prelude.{◌≡◌, ℕ, List, Result};
 ghost use Rattle.sv_base.specs.declared.value.Value.{Value};
 ghost use Rattle.bay_model.specs.Services.{read_reply as read_reply_of};
-ghost use Rattle.reply_parts.specs.Held.{held_within};
+ghost use Rattle.bay_replies.specs.Held.{held_within};
 ghost use Rattle.bay_replies.specs.Replied.{asked_set as asked_of};
 
 use crate::replies::Replies;
+use crate::set_name;
 use bay_model::{Asked, Nodes, Reply, Results, SetName};
 use data_sets::DeleteFault;
-use reply_parts::set_name;
 use std::alloc::{AllocError, Global};
 use sv_base::Octs;
 

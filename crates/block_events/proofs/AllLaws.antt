@@ -21,10 +21,10 @@ use Rattle.report_block.specs.Alls.{all_from, all_pieces}
 use Rattle.report_block.specs.Coming.{AreOf}
 use Rattle.report_block.specs.Events.{pieces_of}
 use Rattle.bay_config.specs.Servable.{IsServable}
-use Rattle.served_sets.specs.Served.{AreServedSets}
+use Rattle.block_watch.specs.Served.{AreServedSets}
 use Rattle.bay_values.specs.Held.{AreHeld}
 use Rattle.block_events.proofs.EventLaws.{note-kept, note-readable}
-use Rattle.served_sets.proofs.ShapeLaws.{AreServed, node_shapes, nodes_named, served_members, served-set, sets_in, members-named}
+use Rattle.block_watch.proofs.ShapeLaws.{AreServed, node_shapes, nodes_named, served_members, served-set, sets_in, members-named}
 
 -- each member is mentioned, with the reason
 all-mentioned : (c : Config) (r : Reasons) → is_any r ≡ true → (m : Model) (past : Past) (i : ℕ) (ns : List ℕ) → map mention (noted m (λ n. r) past i ns) ≡ all_from r i (node_shapes c ns)

@@ -29,7 +29,7 @@ use Rattle.window_core.specs.Standing.{piece_of}
 use Rattle.report_block.specs.Events.{pieces_of}
 use Rattle.report_block.specs.Standing.{IsMemberKept}
 use Rattle.bay_values.specs.Held.{AreHeld}
-use Rattle.served_sets.proofs.ShapeLaws.{AreServed, IsShapeOf, node_shape, node_shapes, member-shape}
+use Rattle.block_watch.proofs.ShapeLaws.{AreServed, IsShapeOf, node_shape, node_shapes, member-shape}
 use Rattle.block_events.proofs.WritableLaws.{shape-writable, shape-one, one-some}
 
 -- ---- the members of a note

@@ -19,8 +19,8 @@ use Rattle.data_sets.proofs.SetLaws.{numbers_of_shapes}
 use Rattle.block_reports.specs.Blanks.{AreShort, IsShortSet}
 use Rattle.block_reports.specs.Again.{AreNodes}
 use Rattle.bay_config.specs.Servable.{IsMember}
-use Rattle.served_sets.specs.Served.{AreServedSets}
-use Rattle.served_sets.proofs.ShapeLaws.{nodes_named, served_members, served-set, members-named, sets_in}
+use Rattle.block_watch.specs.Served.{AreServedSets}
+use Rattle.block_watch.proofs.ShapeLaws.{nodes_named, served_members, served-set, members-named, sets_in}
 
 all-of : {A : Type 0} (P Q : A → Type 0) → ((x : A) → P x → Q x) → (xs : List A) → All P xs → All Q xs
 all-of P Q f [] all = All-nil Q

@@ -40,7 +40,7 @@ use Rattle.report_block.specs.EntryOctets.{IsWritable}
 use Rattle.bay_config.specs.Servable.{IsServable, IsMember, attr_type}
 use Rattle.bay_values.specs.Held.{AreHeld}
 use Rattle.block_reports.proofs.OneElement.{member_is_one}
-use Rattle.served_sets.proofs.ShapeLaws.{IsShapeOf}
+use Rattle.block_watch.proofs.ShapeLaws.{IsShapeOf}
 use Rattle.object_model.proofs.KindLaws.{of_controls}
 
 -- ---- lists

@@ -20,10 +20,10 @@ use Rattle.cfg_parser.specs.Judging.{attribute_counts, counts, is_in_node, is_st
 use Rattle.cfg_grammar.specs.Follows.{IsInNode}
 use Rattle.cfg_text.proofs.SpelledLineLaws.{in-node, between, in-domain, in-set}
 use Rattle.cfg_text.proofs.ReadLineLaws.{node-place, open-place, domain-place, set-place, start-place, configured-place, word_of}
-use Rattle.cfg_refusals.specs.Forms.{Form, words, is_word, AreAsMany, HasCount, IsText}
-use Rattle.cfg_refusals.specs.Forms as forms
-use Rattle.cfg_refusals.specs.Words.{IsWrong}
-use Rattle.cfg_refusals.specs.Lines.{Stands, HasRoomFor}
+use Rattle.cfg_laws.specs.Forms.{Form, words, is_word, AreAsMany, HasCount, IsText}
+use Rattle.cfg_laws.specs.Forms as forms
+use Rattle.cfg_laws.specs.Words.{IsWrong}
+use Rattle.cfg_laws.specs.Lines.{Stands, HasRoomFor}
 use Rattle.cfg_laws.proofs.StepLaws.{err_of, nothing}
 use Rattle.cfg_laws.proofs.WrongLaws.{config-wrong, domain-wrong, node-wrong, set-wrong, member-wrong, attribute-wrong, block-wrong, control-wrong, groups-wrong}
 

@@ -20,9 +20,9 @@ use Rattle.cfg_parser.specs.Keywords.{keyword_at}
 use Rattle.cfg_parser.specs.Judging.{has_long, counts, may_stand, is_full, has_many, keyed_at, known_at, skip_at, tell_at, line_at}
 use Rattle.cfg_text.proofs.SpelledLineLaws.{line-keyed}
 use Rattle.cfg_text.proofs.ReadLineLaws.{word_of, key-is}
-use Rattle.cfg_refusals.specs.Forms.{Form, words, is_word, HasCount, IsText}
-use Rattle.cfg_refusals.specs.Forms as forms
-use Rattle.cfg_refusals.specs.Lines.{IsLong, HasForm, HasRoom, IsJudged, IsRefusedLine}
+use Rattle.cfg_laws.specs.Forms.{Form, words, is_word, HasCount, IsText}
+use Rattle.cfg_laws.specs.Forms as forms
+use Rattle.cfg_laws.specs.Lines.{IsLong, HasForm, HasRoom, IsJudged, IsRefusedLine}
 use Rattle.cfg_laws.proofs.StepLaws.{err_of, refuses, nothing, if-right, if-wrong, if-done}
 use Rattle.cfg_laws.proofs.LongLaws.{not-long, decide-long, long-read}
 use Rattle.cfg_laws.proofs.FormLaws.{are-words, words-are, key-read, IsReal, Plain, plain, text-is, shape, Known, known}

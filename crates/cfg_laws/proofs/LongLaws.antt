@@ -18,7 +18,7 @@ use Rattle.cfg_parser.specs.Keywords.{keyword_at}
 use Rattle.cfg_parser.specs.Judging.{is_long_item, is_long_attribute, is_long_set, is_long_block, is_long_member, is_long_control, has_long, skip_at, tell_at, line_at}
 use Rattle.cfg_text.proofs.SpelledLineLaws.{below-length}
 use Rattle.cfg_text.proofs.ReadLineLaws.{key-is}
-use Rattle.cfg_refusals.specs.Lines.{IsLongItem, IsLongAttribute, IsLongSet, IsLongMember, IsLongBlock, HasCancel, IsLongControl, HasLong, IsLong}
+use Rattle.cfg_laws.specs.Lines.{IsLongItem, IsLongAttribute, IsLongSet, IsLongMember, IsLongBlock, HasCancel, IsLongControl, HasLong, IsLong}
 use Rattle.cfg_laws.proofs.StepLaws.{err_of}
 use Rattle.list_laws.proofs.Truths.{never as false-is}
 

@@ -14,8 +14,8 @@ use Rattle.cfg_lines.specs.Nodes.{reaches, leaves, leaf_names, closed, is_node, 
 use Rattle.cfg_lines.specs.Sizes.{octets_of, leaf_octets, children}
 use Rattle.cfg_lines.proofs.PathLaws.{above-found}
 use Rattle.cfg_lines.specs.declared.line.Line.{Line}
-use Rattle.cfg_refusals.specs.Names.{AnyIs, IsAmong, IsName, AreNames, IsPath, IsReference, IsConstraint, IsAbove, Clashes, IsTaken, Reaches}
-use Rattle.cfg_refusals.specs.Texts.{IsNode, MayBeMember}
+use Rattle.cfg_laws.specs.Names.{AnyIs, IsAmong, IsName, AreNames, IsPath, IsReference, IsConstraint, IsAbove, Clashes, IsTaken, Reaches}
+use Rattle.cfg_laws.specs.Texts.{IsNode, MayBeMember}
 
 -- one of these passes a test
 pub any-is : {X : Type 0} (p : X → Bool) (P : X → Type 0) → ((x : X) → (p x ≡ true) ↔ P x) → (xs : List X) → (list_any p xs ≡ true) ↔ AnyIs P xs

@@ -6,7 +6,7 @@ use Rattle.cfg_parser.specs.declared.fault.Kind.{Kind}
 use Rattle.cfg_parser.specs.declared.fault.Kind.TheVariants as kinds
 use Rattle.cfg_parser.specs.Kinds.{number_of}
 use Rattle.cfg_parser.specs.Reader.{◌>>=◌, given}
-use Rattle.cfg_refusals.specs.Words.{Else}
+use Rattle.cfg_laws.specs.Words.{Else}
 use Rattle.list_laws.proofs.Options.{none_some}
 
 pub itself : {A : Type 0} → A ↔ A

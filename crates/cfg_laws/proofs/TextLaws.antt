@@ -27,8 +27,8 @@ use Rattle.cfg_grammar.specs.Texts.{AreLines, AreFound, SpellsConfig}
 use Rattle.cfg_text.proofs.SpelledLineLaws.{line-read}
 use Rattle.cfg_text.proofs.ReadLineLaws.{line-told}
 use Rattle.cfg_text.proofs.WholeLaws.{config-read, config-told, has-name, lines-read, text-read, all-found-read, empty-is, ended-place, lines-told, all-found-told}
-use Rattle.cfg_refusals.specs.Lines.{IsRefusedLine}
-use Rattle.cfg_refusals.specs.Texts.{HasNoNewline, HasRefused, EndsEarly, IsLost, NamesLost, IsRefused}
+use Rattle.cfg_laws.specs.Lines.{IsRefusedLine}
+use Rattle.cfg_laws.specs.Texts.{HasNoNewline, HasRefused, EndsEarly, IsLost, NamesLost, IsRefused}
 use Rattle.cfg_laws.proofs.NameLaws.{none-is, among-is, node-is, member-is}
 use Rattle.cfg_laws.proofs.StepLaws.{same-kind}
 use Rattle.cfg_laws.proofs.LineLaws.{line-refused}

@@ -25,11 +25,11 @@ use Rattle.cfg_parser.specs.Kinds.{number_of}
 use Rattle.cfg_parser.specs.Reader.{◌>>=◌, given}
 use Rattle.cfg_parser.specs.Contents.{config_at, domain_at, node_at, set_at, member_at, typed_at, attribute_at, block_texts_at, block_options_at, block_triggers_at, block_fields_at, block_at, control_type_at, model_of, control_fields_at, control_at, group_fields_at, groups_at}
 use Rattle.cfg_text.proofs.SpelledLineLaws.{spelled-type}
-use Rattle.cfg_refusals.specs.Words.{Else, IsNumber, IsTextValue, IsBits, IsTypeWord, IsFlags, AreValues, IsControlType, IsModel, IsFreeControl, IsActive, IsWrong}
-use Rattle.cfg_refusals.specs.Forms as forms
-use Rattle.cfg_refusals.specs.Kinds as numbers
+use Rattle.cfg_laws.specs.Words.{Else, IsNumber, IsTextValue, IsBits, IsTypeWord, IsFlags, AreValues, IsControlType, IsModel, IsFreeControl, IsActive, IsWrong}
+use Rattle.cfg_laws.specs.Forms as forms
+use Rattle.cfg_laws.specs.Kinds as numbers
 use Rattle.cfg_laws.proofs.NameLaws.{any-is, none-is, among-is, constraint-is, name-is, path-is, reference-is, taken-is}
-use Rattle.cfg_refusals.specs.Names.{AnyIs, IsTaken}
+use Rattle.cfg_laws.specs.Names.{AnyIs, IsTaken}
 use Rattle.cfg_laws.proofs.StepLaws.{err_of, nothing, if-right, if-wrong, Reads, given-right}
 
 -- words

@@ -10,9 +10,9 @@ ghost use Rattle.cfg_parser.specs.Judging.{line_at};
 ghost use Rattle.cfg_parser.specs.Looking.{config_at};
 ghost use Rattle.cfg_grammar.specs.Texts.{AreLines, SpellsConfig};
 ghost use Rattle.cfg_grammar.specs.Follows.{IsLine};
-ghost use Rattle.cfg_refusals.specs.Kinds.{word, order, long, many};
-ghost use Rattle.cfg_refusals.specs.Lines.{IsRefusedLine};
-ghost use Rattle.cfg_refusals.specs.Texts.{HasNoNewline, IsRefused};
+ghost use Rattle.cfg_laws.specs.Kinds.{word, order, long, many};
+ghost use Rattle.cfg_laws.specs.Lines.{IsRefusedLine};
+ghost use Rattle.cfg_laws.specs.Texts.{HasNoNewline, IsRefused};
 
 /// Behind other lines a line is refused for a kind exactly where the format refuses it for that kind.
 pub fn lines_are_refused_as_the_format_has_them()

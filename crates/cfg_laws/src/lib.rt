@@ -1,4 +1,4 @@
-//! What the format of a configuration has to do with the refusals of its reading.
+//! The refusals of a configuration as its format has them, without a function that reads; and that its reader refuses so.
 #![tactic(auto)]
 
 mod laws;

@@ -6,7 +6,7 @@ use Rattle.std.proofs.lemmas.Bool.Decides.{nat_tests}
 use Rattle.std.proofs.lemmas.List.{take_at}
 use Rattle.list_laws.proofs.Among.{Among}
 use Rattle.list_laws.proofs.Distinct.{Distinct, octets_same}
-use Rattle.name_growth.proofs.GroupLaws.{distinct-with}
+use Rattle.name_tree.proofs.GroupLaws.{distinct-with}
 use Rattle.cfg_lines.specs.Keys.{added}
 use Rattle.cfg_lines.specs.Sizes.{edges_within, edges, with_edge, with_name, children}
 use Rattle.text_configs.proofs.JoinedLaws.{NoDollar}

@@ -13,7 +13,7 @@ use Rattle.sv_base.specs.declared.types.TypeOf.TheVariants as types
 use Rattle.bay_model.specs.Generated.{Named}
 use Rattle.bay_model.specs.NameTree.{Forest, nothing, named, first_name, rest_of, is_itself, below, first_names, role_of, own_type, side_by_side, grown}
 use Rattle.bay_model.specs.Places.{type_with, fields, headed, largest, largest_fields}
-use Rattle.name_growth.proofs.GroupLaws.{distinct}
+use Rattle.name_tree.proofs.GroupLaws.{distinct}
 use Rattle.cfg_lines.specs.Sizes.{element_octets, leaf_octets, children, octets_of}
 use Rattle.cfg_lines.specs.declared.leaf.Leaf.{Leaf}
 use Rattle.text_configs.proofs.JoinedLaws.{NoDollar, IsPlain, ArePlain, joined, first, rest, first-joined, rest-joined, joined-some, first-alone, first-before, rest-before, rest-alone}

@@ -16,7 +16,7 @@ use Rattle.bay_model.specs.declared.step.Step.{Step}
 use Rattle.bay_model.specs.declared.tables.AttrRow.{AttrRow}
 use Rattle.name_leaves.specs.Attributes.{attr_rows, types_of}
 use Rattle.object_model.proofs.AttributeLaws.{rows-types}
-use Rattle.node_rows.specs.Nodes.{node_rows}
+use Rattle.name_tree.specs.Nodes.{node_rows}
 use Rattle.object_model.specs.Fits.{step_fits, fits}
 
 abbrev IsLine : AttrDef → Type 0

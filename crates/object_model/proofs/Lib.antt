@@ -9,3 +9,5 @@ pub mod AttributeLaws
 pub mod KindLaws
 pub mod SendLaws
 pub mod SyncLaws
+-- the laws of this crate, each file its own subject
+pub mod SetNameLaws

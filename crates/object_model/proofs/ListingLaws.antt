@@ -9,13 +9,13 @@ use Rattle.bay_model.specs.Places.{Place}
 use Rattle.bay_model.specs.Named.{places_in}
 use Rattle.bay_model.specs.NamedLines.{Line, domains, lines, in_order, names_in}
 use Rattle.object_model.specs.declared.listing.Listing.{Listing}
-use Rattle.node_rows.specs.Stands.{owns, stands_from, all_stands, all_leaves}
-use Rattle.node_rows.proofs.StandLaws.{owns-append, stands-append}
-use Rattle.node_rows.proofs.AttrLaws.{rows-append, rows-laid}
-use Rattle.node_rows.proofs.NodeLaws.{length-rows, names-append}
-use Rattle.node_finding.proofs.DirectoryLaws.{all-more}
-use Rattle.node_finding.specs.Directories.{items_of, first_of, IsDirectory, IsDirectoryOf, AllFrom}
-use Rattle.node_rows.specs.Nodes.{places_from, spots_in, rows_from, names_at, names_from, node_rows, node_names}
+use Rattle.name_tree.specs.Stands.{owns, stands_from, all_stands, all_leaves}
+use Rattle.name_tree.proofs.StandLaws.{owns-append, stands-append}
+use Rattle.name_tree.proofs.AttrLaws.{rows-append, rows-laid}
+use Rattle.name_tree.proofs.NodeLaws.{length-rows, names-append}
+use Rattle.name_tree.proofs.DirectoryLaws.{all-more}
+use Rattle.name_tree.specs.Directories.{items_of, first_of, IsDirectory, IsDirectoryOf, AllFrom}
+use Rattle.name_tree.specs.Nodes.{places_from, spots_in, rows_from, names_at, names_from, node_rows, node_names}
 use Rattle.object_model.specs.Listed.{IsListed, IsOneMore}
 
 pub listed-more : (c : Config) (i : ℕ) (domain : List ℕ) (old new : Listing) → i < length (domains c) → domain ≡ get_or (domains c) i [] → IsListed c i old → IsOneMore old new (places_in c domain) → IsListed c (i + 1) new

@@ -18,8 +18,8 @@ use Rattle.bay_model.specs.NamedLines.{domains, names_in}
 use Rattle.bay_model.specs.Named.{nodes, places_in, configured_model}
 use Rattle.bay_model.specs.Lookups.{node_of}
 use Rattle.object_model.specs.Tables.{node_named}
-use Rattle.name_growth.proofs.GroupLaws.{distinct}
-use Rattle.node_finding.proofs.ResolveLaws.{distinct-domains}
+use Rattle.name_tree.proofs.GroupLaws.{distinct}
+use Rattle.name_tree.proofs.ResolveLaws.{distinct-domains}
 use Rattle.object_model.proofs.ApartLaws.{each-map, each-more, Unlike, Apart, apart-both, first_place}
 use Rattle.std.proofs.lemmas.Bool.{and_right}
 

@@ -9,18 +9,18 @@ use Rattle.bay_model.specs.Places.{Place, places, trees, tree_with}
 use Rattle.bay_model.specs.Lookups.{node_of}
 use Rattle.bay_model.specs.NamedLines.{domains, names_in}
 use Rattle.bay_model.specs.Named.{configured_model, nodes}
-use Rattle.name_growth.specs.declared.growth.Spot.{Spot}
-use Rattle.node_rows.specs.declared.stands.Stand.{Stand}
+use Rattle.name_tree.specs.declared.growth.Spot.{Spot}
+use Rattle.name_tree.specs.declared.stands.Stand.{Stand}
 use Rattle.name_leaves.specs.declared.leaves.Leaf.{Leaf as CodeLeaf}
 use Rattle.name_leaves.specs.Seen.{role_seen}
-use Rattle.name_growth.specs.Grown.{spot}
+use Rattle.name_tree.specs.Grown.{spot}
 use Rattle.name_leaves.specs.Leaves.{leaves, leaves_side, leaf_code, leaf_seen}
 use Rattle.name_leaves.proofs.LeafLaws.{role_there, leaves_there}
-use Rattle.name_growth.specs.Leaves.{own}
-use Rattle.node_rows.specs.Stands.{option_list, owns, stands_from, all_leaves, all_stands}
+use Rattle.name_tree.specs.Leaves.{own}
+use Rattle.name_tree.specs.Stands.{option_list, owns, stands_from, all_leaves, all_stands}
 use Rattle.list_laws.proofs.Places.{same_at}
-use Rattle.node_rows.proofs.StandLaws.{owns-append}
-use Rattle.node_rows.proofs.AttrLaws.{spots-places}
+use Rattle.name_tree.proofs.StandLaws.{owns-append}
+use Rattle.name_tree.proofs.AttrLaws.{spots-places}
 use Rattle.object_model.proofs.TableLaws.{all_spots, all_places, no_place, places-nodes, count-spots}
 
 abbrev own_list : Tree → List CodeLeaf

@@ -24,9 +24,9 @@ use Rattle.bay_model.specs.contracts.tables.MemberShape as MemberShape
 use Rattle.bay_model.specs.contracts.tables.NodeRow as NodeRow
 use Rattle.bay_model.specs.contracts.tables.AttrRow as AttrRow
 use Rattle.octet_rows.proofs.index.Index.TheSendSync as indexes
-use Rattle.node_finding.specs.contracts.directories.Directory as Directory
-use Rattle.node_finding.specs.contracts.directories.NodeName as NodeName
-use Rattle.node_rows.specs.contracts.stands.Stand as Stand
+use Rattle.name_tree.specs.contracts.directories.Directory as Directory
+use Rattle.name_tree.specs.contracts.directories.NodeName as NodeName
+use Rattle.name_tree.specs.contracts.stands.Stand as Stand
 use Rattle.name_leaves.specs.contracts.leaves.Leaf as Leaf
 use Rattle.object_model.specs.contracts.tables.Tables as Tables
 use Rattle.object_model.specs.contracts.model.Model as Model

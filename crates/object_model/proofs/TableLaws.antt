@@ -9,20 +9,20 @@ use Rattle.bay_model.specs.Model.{Node, several}
 use Rattle.bay_model.specs.declared.tables.NodeRow.{NodeRow}
 use Rattle.bay_model.specs.Lookups.{node_of}
 use Rattle.sv_base.specs.declared.numbers.AttrId.{AttrId}
-use Rattle.name_growth.specs.declared.growth.Spot.{Spot}
-use Rattle.node_rows.proofs.NodeLaws.{length-rows, count-places}
+use Rattle.name_tree.specs.declared.growth.Spot.{Spot}
+use Rattle.name_tree.proofs.NodeLaws.{length-rows, count-places}
 use Rattle.bay_model.specs.NameTree.{nothing}
 use Rattle.bay_model.specs.Places.{Place, place, node_at, may_be_member, largest}
 use Rattle.bay_model.specs.NamedLines.{domains}
 use Rattle.bay_model.specs.Named.{nodes, places_in, configured_model}
-use Rattle.node_finding.specs.declared.directories.NodeName.{NodeName}
-use Rattle.name_growth.specs.Grown.{items_of, spot}
-use Rattle.node_rows.specs.Nodes.{attr_id, spots_in, names_at, names_from, node_names, row, rows_from, node_rows}
+use Rattle.name_tree.specs.declared.directories.NodeName.{NodeName}
+use Rattle.name_tree.specs.Grown.{items_of, spot}
+use Rattle.name_tree.specs.Nodes.{attr_id, spots_in, names_at, names_from, node_names, row, rows_from, node_rows}
 use Rattle.std.proofs.Common.{◌&&◌, nat_le, min}
 use Rattle.std.proofs.lemmas.Bool.Decides.{nat_tests}
 use Rattle.object_model.specs.Rows.{IsRowOf}
 use Rattle.name_order.specs.Sorting.{name_at}
-use Rattle.node_finding.specs.Directories.{domain_at, items_at}
+use Rattle.name_tree.specs.Directories.{domain_at, items_at}
 use Rattle.object_model.specs.Tables.{node_types}
 use Rattle.list_laws.proofs.Options.{some_is, not_some}
 use Rattle.list_laws.proofs.Places.{same_at}

@@ -9,7 +9,7 @@ use Rattle.bay_model.specs.Generated.{Parameter, parameters}
 use Rattle.bay_model.specs.NamedLines.{is_setting}
 pub use Rattle.step_fitting.specs.declared.fitting.Counts.{Counts}
 pub use Rattle.step_fitting.specs.Fits.{is_visible, is_sound_plain, is_sound_seen, are_sound, is_sound, name_fits, target_fits, write_fits, set_fits, set_name_fits, service_fits, is_typed, setting_fits, is_association, step_fits}
-use Rattle.node_rows.specs.Nodes.{node_rows}
+use Rattle.name_tree.specs.Nodes.{node_rows}
 
 -- the types of the attributes by their numbers
 abbrev pub attr_types : Config → List TypeOf

@@ -4,13 +4,13 @@ use Rattle.sv_base.specs.declared.config.Config.{Config}
 use Rattle.bay_model.specs.Places.{Place}
 use Rattle.bay_model.specs.NamedLines.{domains}
 use Rattle.bay_model.specs.Named.{places_in}
-use Rattle.node_finding.specs.declared.directories.Directory.{Directory}
+use Rattle.name_tree.specs.declared.directories.Directory.{Directory}
 use Rattle.object_model.specs.declared.listing.Listing.{Listing}
-use Rattle.name_growth.specs.Grown.{spot}
-use Rattle.node_finding.specs.Directories.{items_of, IsDirectory, IsDirectoryOf, AllFrom}
-use Rattle.node_rows.specs.Stands.{owns, stands_from}
-use Rattle.node_rows.specs.Attrs.{attrs_in_spots, rows_with}
-use Rattle.node_rows.specs.Nodes.{spots_in, rows_from, names_at, names_from}
+use Rattle.name_tree.specs.Grown.{spot}
+use Rattle.name_tree.specs.Directories.{items_of, IsDirectory, IsDirectoryOf, AllFrom}
+use Rattle.name_tree.specs.Stands.{owns, stands_from}
+use Rattle.name_tree.specs.Attrs.{attrs_in_spots, rows_with}
+use Rattle.name_tree.specs.Nodes.{spots_in, rows_from, names_at, names_from}
 
 -- the first i domains are listed
 pub record IsListed (c : Config) (i : ℕ) (l : Listing) : Type 0 where

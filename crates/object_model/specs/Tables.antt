@@ -15,10 +15,10 @@ use Rattle.bay_model.specs.NamedLines.{domains, is_setting}
 use Rattle.bay_model.specs.Named.{name_tree, places_in}
 pub use Rattle.name_leaves.specs.Attributes.{line_flags, no_flags}
 use Rattle.object_model.specs.declared.tables.Tables.{Tables}
-use Rattle.node_rows.specs.Nodes.{node_rows, node_names}
-use Rattle.node_rows.specs.Stands.{all_stands, all_leaves}
-pub use Rattle.node_finding.specs.Finding.{node_named}
-use Rattle.node_finding.specs.Finding.{Finds}
+use Rattle.name_tree.specs.Nodes.{node_rows, node_names}
+use Rattle.name_tree.specs.Stands.{all_stands, all_leaves}
+pub use Rattle.name_tree.specs.Finding.{node_named}
+use Rattle.name_tree.specs.Finding.{Finds}
 
 -- the types of the nodes, by their numbers
 abbrev pub node_types : Config → List TypeOf

@@ -4,12 +4,12 @@ ghost use Rattle.std.specs.Prelude.{◌≡◌, ◌++◌, map, filter, flat_map, 
 ghost use Rattle.std.specs.Str.{bytes_eq};
 ghost use Rattle.bay_model.specs.NamedLines.{Line as ModelLine};
 ghost use Rattle.bay_model.specs.NameTree.{longest as longest_of};
-ghost use Rattle.name_growth.specs.Grown.{items_of, spot};
-ghost use Rattle.node_rows.specs.Nodes.{places_from};
+ghost use Rattle.name_tree.specs.Grown.{items_of, spot};
+ghost use Rattle.name_tree.specs.Nodes.{places_from};
 ghost use Rattle.object_model.specs.Runs.{AreRuns, IsRun, lines_in};
 
 use crate::runs::{Run, count_of, is_same};
-use name_growth::{Cut, Grown, Growth, grow};
+use name_tree::{Cut, Grown, Growth, grow};
 use object_names::{Line, Named};
 use std::alloc::{AllocError, Global};
 

@@ -5,7 +5,7 @@ ghost use Rattle.sv_base.specs.declared.config.Config.{Config};
 ghost use Rattle.bay_model.specs.declared.tables.NodeRow.{NodeRow};
 ghost use Rattle.bay_model.specs.Lookups.{node_of};
 ghost use Rattle.bay_model.specs.Named.{nodes, configured_model};
-ghost use Rattle.node_rows.specs.Nodes.{node_rows};
+ghost use Rattle.name_tree.specs.Nodes.{node_rows};
 ghost use Rattle.object_model.specs.Rows.{IsRowOf};
 ghost use Rattle.object_model.specs.Tables.{node_named};
 ghost use denote.Param.Send.{IsSend, IsSync};

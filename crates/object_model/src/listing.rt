@@ -4,18 +4,18 @@ ghost use Rattle.std.specs.Prelude.{◌≡◌, ◌++◌, ℕ, length, IfOk, OnOk
 ghost use Rattle.sv_base.specs.declared.config.Config.{Config as ModelConfig};
 ghost use Rattle.bay_model.specs.NamedLines.{domains as domains_of, lines as lines_of, in_order as lines_in_order};
 ghost use Rattle.object_model.specs.Listed.{IsListed, IsOneMore};
-ghost use Rattle.node_rows.specs.Nodes.{names_at, places_from};
+ghost use Rattle.name_tree.specs.Nodes.{names_at, places_from};
 ghost use Rattle.object_model.specs.Runs.{AreRuns, lines_in};
-ghost use Rattle.node_rows.specs.Attrs.{attrs_in_spots, rows_with};
-ghost use Rattle.node_rows.specs.Stands.{owns, stands_from};
+ghost use Rattle.name_tree.specs.Attrs.{attrs_in_spots, rows_with};
+ghost use Rattle.name_tree.specs.Stands.{owns, stands_from};
 
 use crate::growing::{growth_of, usual_nodes};
 use crate::runs::{Run, runs_of};
 use bay_model::NodeRow;
-use name_growth::Spot;
 use name_leaves::{Leaf, count};
-use node_finding::{Directory, NodeName, directory_of};
-use node_rows::{Stand, attrs_of, push_nodes, push_stands};
+use name_tree::{
+    Directory, NodeName, Spot, Stand, attrs_of, directory_of, push_nodes, push_stands,
+};
 use object_names::Line;
 use octet_rows::Index;
 use std::alloc::{AllocError, Global};

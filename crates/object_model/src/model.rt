@@ -6,13 +6,12 @@ ghost use Rattle.name_leaves.specs.References.{block_references as blocks_of, co
 ghost use Rattle.object_model.specs.Tables.{IsTables};
 
 use crate::tables::Tables;
-use attribute_rows::{Attributes, block_references, control_references};
 use bay_model::{AttrRow, Flags, Names, NodeTable, SetTable, Step};
 use config_copies::copy_config;
 use name_leaves::{Leaf, What};
 use name_order::name_at;
-use node_finding::item_at;
-use node_rows::between;
+use name_tree::{between, item_at};
+use object_names::{Attributes, block_references, control_references};
 use octet_rows::Index;
 use std::alloc::{AllocError, Global};
 use step_fitting::{Counts, step_fits};
@@ -105,8 +104,8 @@ impl Model {
     ghost use Rattle.sv_base.specs.declared.config.AttrDef.{AttrDef as AttrLine};
     ghost use Rattle.bay_rooms.specs.Slots.{IsSettable};
     ghost use Rattle.object_model.specs.Fits.{fits as fits_in};
-    ghost use Rattle.node_rows.specs.Nodes.{node_rows};
-    ghost use Rattle.node_finding.specs.Sorting.{variables_after};
+    ghost use Rattle.name_tree.specs.Nodes.{node_rows};
+    ghost use Rattle.name_tree.specs.Sorting.{variables_after};
     ghost use Rattle.object_model.specs.Tables.{node_named, node_type, set_rows, flags_of};
     ghost use Rattle.name_leaves.specs.Seen.{role_seen};
     ghost use Rattle.name_leaves.specs.Leaves.{leaves, leaf_seen};

@@ -3,8 +3,8 @@
 ghost use Rattle.std.specs.Prelude.{◌≡◌, map, IfOk};
 ghost use Rattle.sv_base.specs.declared.config.Config.{Config as ModelConfig};
 ghost use Rattle.bay_model.specs.Named.{set_defined, member_number, nodes as nodes_of};
-ghost use Rattle.node_finding.specs.Finding.{Finds, node_named};
-ghost use Rattle.node_finding.specs.Sorting.{variables_after};
+ghost use Rattle.name_tree.specs.Finding.{Finds, node_named};
+ghost use Rattle.name_tree.specs.Sorting.{variables_after};
 ghost use Rattle.object_model.specs.Tables.{IsTables, set_row, node_id};
 ghost use Rattle.name_leaves.specs.References.{attr_references};
 
@@ -12,8 +12,7 @@ use crate::listing::list;
 use bay_model::{NodeTable, Nodes, SetName, SetRow, SetTable};
 use name_leaves::{Leaf, joined};
 use name_order::names_after_at;
-use node_finding::{Directory, NodeName, member_of, number_of};
-use node_rows::Stand;
+use name_tree::{Directory, NodeName, Stand, member_of, number_of};
 use object_names::{domains, index_of, ordered_lines};
 use octet_rows::Index;
 use std::alloc::{AllocError, Global};

@@ -22,8 +22,8 @@ use Rattle.run_record.specs.declared.line.RecLine.TheVariants as lines
 use Rattle.record_steps.specs.Forms.{shut, shape_of, form_behind}
 use Rattle.record_steps.specs.Resolved.{association_of, told_of}
 use Rattle.record_steps.specs.Told.{pass_to, turn}
-use Rattle.record_history.specs.Histories.{form_after, form_at, form_of, said_in, said, moment_after, moment_of, stepped, parts_in, steps_of, onto}
-use Rattle.record_history.specs.Texts.{parts_of, turns_of, turns_in, text_behind, text_of}
+use Rattle.record_outcome.specs.Histories.{form_after, form_at, form_of, said_in, said, moment_after, moment_of, stepped, parts_in, steps_of, onto}
+use Rattle.record_outcome.specs.Texts.{parts_of, turns_of, turns_in, text_behind, text_of}
 use Rattle.bay_histories.specs.Histories.{by, IsShuffle}
 use Rattle.bay_histories.specs.Histories as histories
 use Rattle.script_lines.specs.Parties.{may_have}
@@ -33,8 +33,8 @@ use Rattle.actor_scripts.specs.Raced.{actors}
 use Rattle.actor_scripts.specs.Scripts.{turns_by, made_from, made_of}
 use Rattle.actor_scripts.specs.declared.made.Made.{Made}
 use Rattle.actor_scripts.specs.declared.script.TimedStep.{TimedStep}
-use Rattle.written_histories.specs.Written.{actor_of, as_written, history_written}
-use Rattle.written_histories.proofs.WrittenLaws.{answer_written}
+use Rattle.queue_laws.specs.Written.{actor_of, as_written, history_written}
+use Rattle.queue_laws.proofs.WrittenLaws.{answer_written}
 use Rattle.script_plans.specs.Forms.{form_in}
 use Rattle.script_plans.specs.Plans as plans
 use Rattle.script_plans.specs.Plans.{Script, Plan, script_of, script_turns}

@@ -16,7 +16,7 @@ use Rattle.bay_histories.specs.declared.fault.StepFault.{StepFault}
 use Rattle.bay_histories.specs.declared.fault.StepFault.TheVariants as faults
 use Rattle.bay_histories.specs.Faults.{named}
 use Rattle.record_steps.specs.Forms.{is_shut}
-use Rattle.record_history.specs.Histories.{form_at, onto}
+use Rattle.record_outcome.specs.Histories.{form_at, onto}
 use Rattle.bay_histories.specs.Histories as histories
 use Rattle.bay_histories.specs.Histories.{by, IsLegal, IsShuffle}
 use Rattle.actor_scripts.specs.Stops.{StopsAt}
@@ -25,9 +25,9 @@ use Rattle.actor_scripts.specs.Scripts.{turns_onto, turns_by}
 use Rattle.actor_scripts.specs.declared.part.Part.{Part}
 use Rattle.actor_scripts.specs.declared.script.Script.{Script as Played}
 use Rattle.actor_scripts.specs.declared.script.TimedStep.{TimedStep}
-use Rattle.own_queues.specs.Opers.{AreApart}
-use Rattle.own_queues.specs.Queues.{open_behind, is_open, waits, opers, IsItsOwn, AreTheirOwn, IsInOrder, own_fault}
-use Rattle.own_queues.proofs.QueueLaws.{waits_by_steps, accepted_by_steps}
+use Rattle.queue_laws.specs.Opers.{AreApart}
+use Rattle.queue_laws.specs.Queues.{open_behind, is_open, waits, opers, IsItsOwn, AreTheirOwn, IsInOrder, own_fault}
+use Rattle.queue_laws.proofs.QueueLaws.{waits_by_steps, accepted_by_steps}
 use Rattle.text_configs.proofs.Served.{served}
 use Rattle.script_plans.specs.Plans.{Script, Plan, script_of}
 use Rattle.script_plans.specs.Sound.{IsTold, AreTold, IsScriptOrNone, IsSound}

@@ -4,7 +4,7 @@ use Rattle.std.specs.Prelude.{Option, None, Some, slice_get}
 use Rattle.sv_base.specs.declared.config.Config.{Config}
 use Rattle.bay_model.specs.Answers.{Turn, History}
 use Rattle.bay_histories.specs.Histories.{turn_of}
-use Rattle.record_history.specs.Histories.{onto}
+use Rattle.record_outcome.specs.Histories.{onto}
 use Rattle.actor_scripts.specs.Scripts.{turns_onto, turns_by}
 use Rattle.actor_scripts.specs.declared.made.Made.{Made}
 use Rattle.actor_scripts.specs.declared.script.TimedStep.{TimedStep}

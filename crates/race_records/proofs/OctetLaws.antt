@@ -22,11 +22,11 @@ use Rattle.run_record.specs.declared.line.RecLine.TheVariants as lines
 use Rattle.run_record.proofs.ReadLaws.{line-read}
 use Rattle.record_steps.specs.Resolved.{told_of}
 use Rattle.record_steps.specs.Told.{last}
-use Rattle.record_history.specs.Histories.{ended_pieces, lines_of, Parted, with_line, parted, octets_of, form_of, said_in, said, moment_of, parts_in, steps_of, onto, Recorded, recorded, history_of}
-use Rattle.record_history.specs.Texts.{parts_of, text_behind}
-use Rattle.record_history.specs.Texts as texts
+use Rattle.record_outcome.specs.Histories.{ended_pieces, lines_of, Parted, with_line, parted, octets_of, form_of, said_in, said, moment_of, parts_in, steps_of, onto, Recorded, recorded, history_of}
+use Rattle.record_outcome.specs.Texts.{parts_of, text_behind}
+use Rattle.record_outcome.specs.Texts as texts
 use Rattle.record_outcome.specs.Records.{NoNewline}
-use Rattle.record_laws.specs.Grammar.{IsInner, Each}
+use Rattle.record_outcome.specs.Grammar.{IsInner, Each}
 use Rattle.actor_scripts.specs.Scripts.{made_of}
 use Rattle.actor_scripts.specs.declared.made.Made.{Made}
 use Rattle.actor_scripts.specs.declared.script.TimedStep.{TimedStep}

@@ -29,14 +29,14 @@ use Rattle.record_steps.specs.Told.{turn, refused}
 use Rattle.record_steps.specs.declared.heard.Wired.{Wired}
 use Rattle.record_steps.specs.declared.heard.Wired.TheVariants.{Dialling, On}
 use Rattle.record_steps.proofs.ToldLaws.{told-own}
-use Rattle.record_history.specs.Histories.{form_after, form_at}
+use Rattle.record_outcome.specs.Histories.{form_after, form_at}
 use Rattle.bay_histories.specs.Histories as histories
 use Rattle.script_lines.specs.Parties.{may_have}
 use Rattle.script_lines.specs.declared.party.Party.{Party}
 use Rattle.script_lines.specs.declared.party.Party.TheVariants as parties
 use Rattle.actor_scripts.specs.declared.script.TimedStep.{TimedStep}
-use Rattle.written_histories.specs.Written.{actor_of}
-use Rattle.own_queues.specs.Queues.{open_behind, IsItsOwn, IsInOrder}
+use Rattle.queue_laws.specs.Written.{actor_of}
+use Rattle.queue_laws.specs.Queues.{open_behind, IsItsOwn, IsInOrder}
 use Rattle.script_plans.specs.Forms.{form_in}
 use Rattle.script_plans.specs.Sound.{IsActor, IsTold}
 use Rattle.script_plans.specs.declared.line.StepLine.{StepLine}

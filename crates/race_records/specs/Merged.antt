@@ -14,7 +14,7 @@ use Rattle.run_record.specs.Spelled.{spelled}
 use Rattle.run_record.specs.declared.line.RecLine.TheVariants as lines
 use Rattle.record_steps.specs.Forms.{shape_of}
 use Rattle.record_steps.specs.Told.{Told, turn}
-use Rattle.record_history.specs.Histories.{octets_of, said_in}
+use Rattle.record_outcome.specs.Histories.{octets_of, said_in}
 use Rattle.actor_scripts.specs.Scripts.{made_of}
 use Rattle.actor_scripts.specs.declared.made.Made.{Made}
 use Rattle.script_plans.specs.Forms.{form_in, IsFit}

@@ -3,12 +3,12 @@
 use Rattle.std.specs.Prelude.{◌≡◌, Some, ◌++◌, codes}
 use Rattle.bay_model.specs.Answers.{History}
 use Rattle.bay_histories.specs.Histories.{IsShuffle}
-use Rattle.record_history.specs.Histories.{Recorded, lines_of, history_of}
-use Rattle.record_history.specs.Texts.{turns_in, record_text}
+use Rattle.record_outcome.specs.Histories.{Recorded, lines_of, history_of}
+use Rattle.record_outcome.specs.Texts.{turns_in, record_text}
 use Rattle.actor_scripts.specs.Raced.{actors}
 use Rattle.script_plans.specs.Plans.{Plan, turns_of}
 use Rattle.script_plans.specs.Sound.{IsSound}
-use Rattle.written_histories.specs.Written.{history_written}
+use Rattle.queue_laws.specs.Written.{history_written}
 use Rattle.race_records.specs.Merged.{record_of, answers_to}
 
 pub record IsReadBack (p : Plan) (h : History) : Type 0 where

@@ -3,7 +3,7 @@
 ghost use Rattle.std.specs.Prelude.{◌≡◌, ◌++◌, Some, OnOk};
 ghost use Rattle.std.specs.List.{All};
 ghost use Rattle.bay_model.specs.Points.{least_moment};
-ghost use Rattle.record_history.specs.Histories.{octets_of};
+ghost use Rattle.record_outcome.specs.Histories.{octets_of};
 ghost use Rattle.race_records.specs.Merged.{at_lines, lines_behind, merged, record_with, book_seen, HasLine};
 
 use crate::book::line_made;

@@ -24,9 +24,9 @@ use Rattle.record_steps.specs.Told.{Told, skip, pass_to, turn, heard, refused, l
 use Rattle.record_steps.specs.declared.heard.Heard.{Heard}
 use Rattle.record_steps.specs.declared.heard.Heard.TheVariants.{Tells, Makes}
 use Rattle.record_steps.specs.Forms.{Form, shape_of, form_behind}
-use Rattle.record_history.specs.Histories.{ended_pieces, behind_heading, Parted, with_line, parted, octets_of, form_after, form_at, form_of, said_in, said, moment_after, moment_of, Part, stepped, written as answered, part_of, parts_in, steps_of, onto, Recorded, recorded, lines_of, history_of}
-use Rattle.record_history.specs.Texts.{parts_of, turns_of, turns_in, text_behind, text_of, record_text}
-use Rattle.record_history.proofs.LastLaws.{told-last, end-line}
+use Rattle.record_outcome.specs.Histories.{ended_pieces, behind_heading, Parted, with_line, parted, octets_of, form_after, form_at, form_of, said_in, said, moment_after, moment_of, Part, stepped, written as answered, part_of, parts_in, steps_of, onto, Recorded, recorded, lines_of, history_of}
+use Rattle.record_outcome.specs.Texts.{parts_of, turns_of, turns_in, text_behind, text_of, record_text}
+use Rattle.record_outcome.proofs.LastLaws.{told-last, end-line}
 use Rattle.record_outcome.specs.Played.{Played, start, turn_at, past_line}
 use Rattle.record_outcome.specs.Moves.{Place, Move, goes, stops, opening, configuring, playing}
 use Rattle.record_outcome.specs.Openings.{headed, opening_at, started, configuring_at}

@@ -3,3 +3,7 @@ pub mod LineLaws
 pub mod StatusLaws
 mod WorkedLines
 pub mod HistoryLaws
+-- the laws of this crate, each file its own subject
+pub mod LastLaws
+-- the laws of this crate, each file its own subject
+pub mod CompleteLaws

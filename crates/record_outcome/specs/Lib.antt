@@ -8,3 +8,9 @@ pub mod Records
 pub mod Judgements
 pub mod Statuses
 pub mod Written
+-- The history of a record, and the text of a history.
+pub mod Histories
+pub mod Texts
+pub mod Laws
+-- what holds of whole records
+pub mod Grammar

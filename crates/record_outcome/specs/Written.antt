@@ -5,8 +5,8 @@ use Rattle.bay_model.specs.Acceptance.{QueueFull, fault, IsHistory}
 use Rattle.bay_model.specs.Answers.{Turn}
 use Rattle.stream_lines.specs.declared.shape.Shape.{Shape}
 use Rattle.std.specs.Io.KnownBytes.{Appends}
-use Rattle.record_history.specs.Histories.{Part, stepped, Recorded, lines_of, history_of}
-use Rattle.record_history.specs.Texts.{turns_in, record_text}
+use Rattle.record_outcome.specs.Histories.{Part, stepped, Recorded, lines_of, history_of}
+use Rattle.record_outcome.specs.Texts.{turns_in, record_text}
 use Rattle.record_outcome.specs.Records.{Outcome, limit, outcome}
 use Rattle.record_outcome.specs.declared.status.Status.{Status}
 use Rattle.record_outcome.specs.declared.status.Status.TheVariants as statuses

@@ -1,4 +1,4 @@
-//! What a record comes to: what each of its lines does, its status, and what is written to it.
+//! What a record comes to: its history, the text of that, what each of its lines does, its status, and what is written to it.
 #![tactic(auto)]
 
 // how the reading of a record ends, as every run of the program
@@ -13,5 +13,10 @@ pub mod openings;
 // the lines of a configuration
 pub mod configuring;
 
-// what is answered to a record, by its history
+// laws: of the history of a record, of what is answered to it, and of whole records
+mod histories;
 pub mod laws;
+mod whole;
+
+pub use histories::{record_fronts, records_resume};
+pub use whole::whole_records_are_read_to_their_end;

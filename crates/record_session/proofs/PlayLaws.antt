@@ -40,7 +40,7 @@ use Rattle.record_steps.proofs.FormLaws.{form-elsewhere, shape-plain}
 use Rattle.record_steps.proofs.ToldLaws.{told-own}
 use Rattle.record_outcome.specs.Played.{Played, turn_at, with_turn, past_line}
 use Rattle.record_outcome.specs.Steps.{stop_of, accepted, then_on, heard_on, played, told_at, step_at}
-use Rattle.record_forms.specs.Formed.{form_in}
+use Rattle.record_steps.specs.Formed.{form_in}
 use Rattle.record_session.specs.Plays.{Plays, PlaysTo, PlaysOn, PlaysSlot, Performs, DoesPart, DoesParts, IsReadyPart, IsReady, most_of, plays_told}
 use Rattle.record_session.specs.declared.playing.Playing.{Playing}
 use Rattle.record_outcome.specs.declared.status.Status.{Status}

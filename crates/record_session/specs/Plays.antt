@@ -20,7 +20,7 @@ use Rattle.record_outcome.specs.Played.{Played, turn_at}
 use Rattle.record_outcome.specs.Moves.{playing, Move, goes, stops}
 use Rattle.record_outcome.specs.Steps.{accepted, heard_on, played, told_at}
 use Rattle.record_outcome.specs.Judgements.{IsJudgement}
-use Rattle.record_forms.specs.Formed.{form_in}
+use Rattle.record_steps.specs.Formed.{form_in}
 use Rattle.record_session.specs.declared.playing.Playing.{Playing}
 use Rattle.record_session.specs.declared.starting.Started.{Started}
 use Rattle.record_session.specs.declared.starting.Started.TheVariants as starteds

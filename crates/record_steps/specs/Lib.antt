@@ -9,3 +9,5 @@ pub mod Told
 pub mod Resolved
 pub mod Telling
 pub mod Own
+-- what the associations are, by their numbers
+pub mod Formed

@@ -6,10 +6,12 @@ mod telling;
 
 pub use telling::{Told, association, tell};
 
-// what an association is, and what a line makes of it
+// what an association is, what a line makes of it, and what all of them are by their numbers
 mod form;
+mod forms;
 
 pub use form::Form;
+pub use forms::Forms;
 
 // the streams of associations on the wire
 mod heard;

@@ -4,12 +4,12 @@ ghost use Rattle.std.specs.Prelude.{◌≡◌, ◌≤◌, ◌↔◌, IfSome};
 ghost use Rattle.sv_io.specs.Causes.{Rose};
 ghost use Rattle.sv_io.specs.Taken.{TakesAtMost};
 ghost use Rattle.record_outcome.specs.Written.{WritesHistory};
-ghost use Rattle.config_check.specs.Checked.{IsChecked, IsOfCheck, Checks};
+ghost use Rattle.replay_run.specs.Checked.{IsChecked, IsOfCheck, Checks};
 ghost use Rattle.replay_run.specs.Tool.{IsReplay, IsCheck, IsCommand};
 ghost use Rattle.record_outcome.specs.Judgements.{IsJudgement, IsOfReplay, Answers};
 
+use crate::check::check;
 use command_line::is_word;
-use config_check::check::check;
 use record_outcome::status::Status;
 use record_session::replay::replay_record;
 use std::alloc::Global;

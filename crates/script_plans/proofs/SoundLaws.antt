@@ -27,9 +27,9 @@ use Rattle.record_steps.specs.Forms.{is_shut, form_behind}
 use Rattle.record_steps.specs.Resolved.{told_of}
 use Rattle.record_steps.specs.Told.{Told, skip, pass_to, turn, heard, refused, last}
 use Rattle.record_steps.proofs.ToldLaws.{told-own}
-use Rattle.record_history.specs.Histories.{octets_of, form_after, form_at, onto}
+use Rattle.record_outcome.specs.Histories.{octets_of, form_after, form_at, onto}
 use Rattle.record_outcome.specs.Records.{limit, most_lines, NoNewline, pieces}
-use Rattle.record_laws.specs.Grammar.{IsInner, Each}
+use Rattle.record_outcome.specs.Grammar.{IsInner, Each}
 use Rattle.script_lines.specs.Grammar.{IsParty}
 use Rattle.script_lines.specs.Lines.{script_line_at}
 use Rattle.script_lines.specs.Parties.{may_have}
@@ -42,7 +42,7 @@ use Rattle.script_lines.proofs.LineLaws.{line-told}
 use Rattle.actor_scripts.specs.Stops.{AreFit}
 use Rattle.actor_scripts.specs.declared.script.TimedStep.{TimedStep}
 use Rattle.actor_scripts.proofs.Lists.{map_last}
-use Rattle.written_histories.specs.Written.{actor_of}
+use Rattle.queue_laws.specs.Written.{actor_of}
 use Rattle.script_plans.specs.Forms.{form_in, form_passed, IsFit}
 use Rattle.script_plans.specs.Plans.{Script, Plan, script_of, with_script}
 use Rattle.script_plans.specs.Moves.{Place, opening, configuring, between, inside, Move, goes, stops, ends}

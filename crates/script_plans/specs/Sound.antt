@@ -7,15 +7,15 @@ use Rattle.run_record.specs.Judging.{line_at}
 use Rattle.run_record.specs.declared.line.RecLine.{RecLine}
 use Rattle.record_steps.specs.Resolved.{told_of}
 use Rattle.record_steps.specs.Told.{turn}
-use Rattle.record_history.specs.Histories.{octets_of, form_at}
+use Rattle.record_outcome.specs.Histories.{octets_of, form_at}
 use Rattle.record_outcome.specs.Records.{most_lines}
-use Rattle.record_laws.specs.Grammar.{IsInner, Each}
+use Rattle.record_outcome.specs.Grammar.{IsInner, Each}
 use Rattle.script_lines.specs.Parties.{may_have}
 use Rattle.script_lines.specs.declared.party.Party.{Party}
 use Rattle.script_lines.specs.declared.party.Party.TheVariants as parties
 use Rattle.actor_scripts.specs.Stops.{AreFit}
 use Rattle.actor_scripts.specs.declared.script.TimedStep.{TimedStep}
-use Rattle.written_histories.specs.Written.{actor_of}
+use Rattle.queue_laws.specs.Written.{actor_of}
 use Rattle.script_plans.specs.Forms.{form_in, IsFit}
 use Rattle.script_plans.specs.Plans.{Script, Plan, script_of}
 use Rattle.script_plans.specs.declared.form.ScriptForm.{ScriptForm}

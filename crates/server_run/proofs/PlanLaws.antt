@@ -10,8 +10,8 @@ use Rattle.script_plans.specs.Plans.{Plan}
 use Rattle.script_plans.specs.Sound.{IsSound}
 use Rattle.race_records.specs.Merged.{Book, lines_in}
 use Rattle.race_records.specs.Known.{AreScripts, AreOfPlan}
-use Rattle.script_casting.specs.Casting.{IsCast}
-use Rattle.script_casting.proofs.CastLaws.{plan-roles, plan-turns, plan-falls, plan-plays}
+use Rattle.race_settling.specs.Casting.{IsCast}
+use Rattle.race_settling.proofs.CastLaws.{plan-roles, plan-turns, plan-falls, plan-plays}
 use Rattle.race_settling.specs.Races.{IsOfPlan}
 
 pub served-plan : (p : Plan) (c : Config) (text : List ℕ) (book : Book) (ss : List Part) → IsOfPlan p c text book ss → IsServable c

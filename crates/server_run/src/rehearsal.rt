@@ -15,10 +15,9 @@ ghost use Rattle.server_run.specs.Rehearsals.{most, PerformsInput, Rehearses, Is
 use actor_scripts::Actor;
 use bay_races::race_over;
 use object_model::Model;
-use race_settling::settle;
+use race_settling::{cast_scripts, settle};
 use record_outcome::limits::MOST_OCTETS;
 use record_outcome::status::Status;
-use script_casting::cast_scripts;
 use script_plans::StepLine;
 use script_reading::{MOST_SCRIPTS, Plan, read_rehearsal};
 use std::alloc::{AllocError, Global};

@@ -33,3 +33,5 @@ pub mod ReferenceLaws
 pub mod AllowedLaws
 pub mod ServableLaws
 pub mod Served
+-- the laws of this crate, each file its own subject
+pub mod SetNameLaws

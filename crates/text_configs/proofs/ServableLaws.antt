@@ -25,7 +25,7 @@ use Rattle.sv_base.specs.declared.config.BlockDef.{BlockDef}
 use Rattle.bay_model.specs.Model.{Block}
 use Rattle.bay_model.specs.Sets.{set_referred}
 use Rattle.data_sets.specs.Opening.{AreNamed}
-use Rattle.text_sets.proofs.NamedLaws.{sets-named, few-told}
+use Rattle.text_configs.proofs.SetNameLaws.{sets-named, few-told}
 use Rattle.bay_config.specs.Servable.{IsMember, IsReferred, IsServedSet, IsServedBlock, HasSoundValues, IsServable}
 use Rattle.list_laws.proofs.Among.{Among, all-of, mapped, source}
 use Rattle.text_configs.proofs.GroupLaws.{are-grouped, begins, first-value}

@@ -11,7 +11,7 @@ use Rattle.cfg_lines.specs.declared.line.Line.{Line}
 use Rattle.cfg_lines.specs.declared.line.Line.TheVariants as lines
 use Rattle.list_laws.proofs.Among.{Among, ending}
 use Rattle.text_configs.proofs.StandLaws.{in-node}
-use Rattle.text_sets.proofs.NamedLaws.{few-told}
+use Rattle.text_configs.proofs.SetNameLaws.{few-told}
 
 -- ---- blocks
 

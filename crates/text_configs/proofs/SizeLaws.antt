@@ -12,7 +12,7 @@ use Rattle.sv_base.specs.declared.types.TypeOf.TheVariants as types
 use Rattle.bay_model.specs.Generated.{Named}
 use Rattle.bay_model.specs.NameTree.{Forest, named, below, first_names, role_of, own_type, side_by_side, grown}
 use Rattle.bay_model.specs.Places.{Place, places, type_with, fields, headed, largest, largest_fields}
-use Rattle.name_growth.proofs.GroupLaws.{distinct}
+use Rattle.name_tree.proofs.GroupLaws.{distinct}
 use Rattle.list_laws.proofs.Among.{Among, each-of, left, right, source, tails}
 use Rattle.text_configs.proofs.JoinedLaws.{joined, joined-behind}
 use Rattle.text_configs.proofs.NamedLaws.{place_at, deeper, IsPlaced, placed}

@@ -6,7 +6,7 @@ use Rattle.data_sets.specs.Books.{opened as booked}
 use Rattle.object_model.specs.Nodes.{node_rows}
 use Rattle.block_watch.specs.Watched.{AreLent, IsWatchable}
 use Rattle.object_model.specs.Tables.{set_rows}
-use Rattle.served_sets.proofs.BookLaws.{sets-lent}
+use Rattle.block_watch.proofs.BookLaws.{sets-lent}
 use Rattle.bay_opening.proofs.FirstBook.{opened-served}
 use Rattle.bay_values.proofs.FirstValues.{opened-held}
 use Rattle.bay_opening.proofs.FirstParts.{watchable-first}

@@ -2,8 +2,8 @@
 use Rattle.std.proofs.Common.{◌++◌, List, ℕ, map, ap, ap₂, ◌∙◌}
 use Rattle.bay_model.specs.NameTree.{grown}
 use Rattle.bay_model.specs.Places.{places}
-use Rattle.name_growth.specs.Grown.{items_of, spot}
-use Rattle.name_growth.proofs.GrowLaws.{all-levels}
+use Rattle.name_tree.specs.Grown.{items_of, spot}
+use Rattle.name_tree.proofs.GrowLaws.{all-levels}
 use Rattle.object_model.proofs.growing.growth_of.Goals as goal
 
 pub returns-clause-items : goal.returns-clause-items

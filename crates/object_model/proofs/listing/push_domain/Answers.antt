@@ -1,12 +1,12 @@
 -- why `listing::push_domain` answers as its contract says
 use Rattle.std.proofs.Common.{◌≡◌, List, [], ◌∷◌, ap, ◌∙◌, subst, ◌++◌, map, length}
 use Rattle.bay_model.specs.Places.{Place}
-use Rattle.name_growth.specs.Grown.{items_of, spot}
-use Rattle.node_rows.specs.Nodes.{names_at, places_from}
+use Rattle.name_tree.specs.Grown.{items_of, spot}
+use Rattle.name_tree.specs.Nodes.{names_at, places_from}
 use Rattle.object_model.specs.Runs.{lines_in}
-use Rattle.node_rows.specs.Attrs.{attrs_in_spots, rows_with}
-use Rattle.node_finding.specs.Directories.{IsDirectoryOf}
-use Rattle.node_rows.specs.Stands.{owns, stands_from}
+use Rattle.name_tree.specs.Attrs.{attrs_in_spots, rows_with}
+use Rattle.name_tree.specs.Directories.{IsDirectoryOf}
+use Rattle.name_tree.specs.Stands.{owns, stands_from}
 use Rattle.object_model.proofs.listing.push_domain.Goals as goal
 
 pub returns : goal.returns

@@ -2,7 +2,7 @@
 use Rattle.std.proofs.Common.{◌≡◌, map, take}
 use Rattle.sv_base.specs.declared.config.Config.{Config}
 use Rattle.bay_model.specs.Named.{nodes, member_number}
-use Rattle.node_finding.specs.Finding.{Finds}
+use Rattle.name_tree.specs.Finding.{Finds}
 use Rattle.object_model.specs.Tables.{node_id}
 use Rattle.object_model.proofs.tables.members_of.Given as goal
 

@@ -1,7 +1,7 @@
 -- what the loops of `record::push_lines` keep
 use Rattle.std.proofs.Common.{◌≡◌, ◌++◌, drop}
 use Rattle.bay_model.specs.Points.{least_moment}
-use Rattle.record_history.specs.Histories.{octets_of}
+use Rattle.record_outcome.specs.Histories.{octets_of}
 use Rattle.race_records.specs.Merged.{merged, book_seen}
 use Rattle.race_records.proofs.record.push_lines.Given as goal
 

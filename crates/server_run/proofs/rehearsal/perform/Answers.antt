@@ -3,7 +3,7 @@ use Rattle.std.proofs.Common.{map, subst, sym, ap, ◌∙◌}
 use Rattle.race_records.specs.Merged.{book_seen}
 use Rattle.script_reading.specs.Readings.{plan_seen}
 use Rattle.race_settling.specs.Races.{IsOfPlan}
-use Rattle.script_casting.proofs.SeatLaws.{plan-seats}
+use Rattle.race_settling.proofs.SeatLaws.{plan-seats}
 use Rattle.server_run.proofs.PlanLaws.{cast-plan}
 use Rattle.server_run.proofs.rehearsal.perform.Goals as goal
 

@@ -4,7 +4,7 @@ use Rattle.race_records.specs.Merged.{book_seen}
 use Rattle.actor_scripts.specs.Actors.{AreFalling, CanPlay}
 use Rattle.actor_scripts.specs.declared.script.Script.{Script}
 use Rattle.race_settling.specs.Races.{IsOfRace}
-use Rattle.script_casting.proofs.CastLaws.{numbers-of, of-scripts}
+use Rattle.race_settling.proofs.CastLaws.{numbers-of, of-scripts}
 use Rattle.server_run.proofs.PlanLaws.{served-plan}
 use Rattle.server_run.proofs.rehearsal.play_cast.Goals as goal
 

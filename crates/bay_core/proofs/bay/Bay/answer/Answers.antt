@@ -4,7 +4,7 @@ use Rattle.bay_model.specs.declared.request.Service.{Service}
 use Rattle.bay_model.specs.declared.request.Service.TheVariants as services
 use Rattle.bay_model.specs.declared.request.Write.{Write}
 use Rattle.bay_core.specs.Commanded.{CallsNothing}
-use Rattle.served_sets.specs.Served.{AreServedSets}
+use Rattle.block_watch.specs.Served.{AreServedSets}
 use Rattle.bay_core.specs.State.{State}
 use Rattle.bay_core.proofs.CameLaws.{replied-come}
 use Rattle.bay_core.proofs.bay.Bay.answer.Goals as goal

@@ -24,7 +24,7 @@ use Rattle.bay_core.specs.Deleted.{IsNewSet}
 use Rattle.bay_core.specs.State.{State}
 use Rattle.bay_core.specs.Timed.{at_arrival}
 use Rattle.bay_core.proofs.ArriveLaws.{HasAll}
-use Rattle.served_sets.proofs.BookLaws.{number-there}
+use Rattle.block_watch.proofs.BookLaws.{number-there}
 use Rattle.bay_core.proofs.ChangedLaws.{definition-done, definition-refused}
 use Rattle.bay_core.proofs.DefineLaws.{new-set}
 use Rattle.bay_core.proofs.SettingLaws.{have-members}

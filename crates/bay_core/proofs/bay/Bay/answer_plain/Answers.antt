@@ -6,7 +6,7 @@ use Rattle.bay_model.specs.declared.request.Service.{Service}
 use Rattle.assoc_table.specs.Tables.{IsNumber}
 use Rattle.bay_core.specs.Asked.{IsAnswered, IsReplied}
 use Rattle.bay_core.specs.Commanded.{CallsNothing}
-use Rattle.served_sets.specs.Served.{AreServedSets}
+use Rattle.block_watch.specs.Served.{AreServedSets}
 use Rattle.bay_core.specs.State.{State}
 use Rattle.bay_core.proofs.AnswerLaws.{reading-of}
 use Rattle.bay_core.proofs.AskLaws.{IsQuietService, answered-replied, quiet-read}

@@ -1,6 +1,6 @@
 -- why `bay::Bay::answer_read` answers as its contract says
 use Rattle.std.proofs.Common.{subst}
-use Rattle.served_sets.specs.Served.{AreServedSets}
+use Rattle.block_watch.specs.Served.{AreServedSets}
 use Rattle.bay_core.specs.State.{State}
 use Rattle.bay_core.proofs.AnswerLaws.{read-answered}
 use Rattle.bay_core.proofs.bay.Bay.answer_read.Goals as goal

@@ -11,7 +11,7 @@ use Rattle.bay_model.specs.declared.request.Service.TheVariants as services
 use Rattle.bay_model.specs.Singles.{writes_of}
 use Rattle.bay_core.specs.Asked.{AreMembersFit, AreWritten, IsAnswered, members_of, node_numbers, set_members}
 use Rattle.bay_core.specs.Commanded.{AreNoCommands}
-use Rattle.served_sets.specs.Served.{AreServedSets}
+use Rattle.block_watch.specs.Served.{AreServedSets}
 use Rattle.bay_core.specs.State.{State}
 use Rattle.bay_core.proofs.AnswerLaws.{members-answered, members-fit, members-uncalled, no-set, other-count}
 use Rattle.bay_core.proofs.bay.Bay.answer_set.Goals as goal

@@ -13,7 +13,7 @@ use Rattle.report_block.specs.declared.block.ReportBlock.{ReportBlock}
 use Rattle.bay_core.specs.Deleted.{IsNewSet}
 use Rattle.bay_core.specs.State.{State}
 use Rattle.bay_core.specs.Whole.{IsWhole}
-use Rattle.served_sets.proofs.BookLaws.{lent-nodes}
+use Rattle.block_watch.proofs.BookLaws.{lent-nodes}
 use Rattle.bay_core.proofs.DefineLaws.{whole-defined}
 use Rattle.bay_core.proofs.bay.Bay.define.Goals as goal
 

@@ -15,11 +15,11 @@ use Rattle.block_reports.specs.Reporting.{report_by}
 use Rattle.bay_config.specs.Servable.{IsServable}
 use Rattle.bay_core.specs.Standing.{StandsAt}
 use Rattle.data_sets.specs.Books.{Book}
-use Rattle.served_sets.specs.Served.{AreServedSets}
+use Rattle.block_watch.specs.Served.{AreServedSets}
 use Rattle.bay_core.specs.State.{State}
 use Rattle.bay_core.specs.Timed.{at_arrival}
 use Rattle.bay_core.specs.Whole.{IsWhole}
-use Rattle.served_sets.proofs.ShapeLaws.{served-few, served_members}
+use Rattle.block_watch.proofs.ShapeLaws.{served-few, served_members}
 use Rattle.bay_core.proofs.FurnishLaws.{part-fits}
 use Rattle.bay_core.proofs.SentLaws.{whole-sent}
 use Rattle.block_events.proofs.ServedLaws.{shapes-there}

@@ -22,7 +22,7 @@ use Rattle.block_events.proofs.QuietLaws.{quiet-set}
 use Rattle.bay_core.proofs.TakenLaws.{same-part}
 use Rattle.bay_core.proofs.ArriveLaws.{HasAll, general-are}
 use Rattle.bay_core.proofs.WrittenLaws.{written-at}
-use Rattle.served_sets.proofs.BookLaws.{part-lent}
+use Rattle.block_watch.proofs.BookLaws.{part-lent}
 use Rattle.bay_core.proofs.SettingLaws.{are-ready, have-members}
 use Rattle.block_watch.proofs.WatchLaws.{at-place}
 use Rattle.bay_core.proofs.bay.Bay.write_at_arrival.Goals as goal

@@ -2,7 +2,7 @@
 use Rattle.std.proofs.Common.{◌≡◌, ◌+◌, ◌++◌, length, map, drop}
 use Rattle.sv_base.specs.declared.numbers.NodeId.{NodeId}
 use Rattle.bay_replies.specs.Given.{node_read}
-use Rattle.reply_parts.proofs.SizeLaws.{octets}
+use Rattle.bay_replies.proofs.SizeLaws.{octets}
 use Rattle.bay_replies.proofs.replies.Replies.read_nodes.Given as goal
 
 abbrev pub invariant-loop-node : goal.invariant-loop-node

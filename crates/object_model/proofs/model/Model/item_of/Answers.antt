@@ -1,6 +1,6 @@
 -- why `model::Model::item_of` answers as its contract says
 use Rattle.std.proofs.Common.{◌∙◌, sym, subst, get_or}
-use Rattle.node_finding.specs.Finding.{Finds}
+use Rattle.name_tree.specs.Finding.{Finds}
 use Rattle.object_model.proofs.TableLaws.{NameAt, no_name, within-names, name-of}
 use Rattle.object_model.proofs.model.Model.item_of.Goals as goal
 

@@ -1,9 +1,9 @@
 -- why `model::Model::leaves_of` answers as its contract says
 use Rattle.std.proofs.Common.{◌∙◌, ◌-◌, ◌≤◌, length, take, drop, map, ap, subst, sym, get_or}
-use Rattle.node_rows.specs.declared.stands.Stand.{Stand}
+use Rattle.name_tree.specs.declared.stands.Stand.{Stand}
 use Rattle.name_leaves.specs.declared.what.What.TheVariants as whats
 use Rattle.name_leaves.specs.Leaves.{leaf_seen}
-use Rattle.node_rows.specs.Stands.{all_leaves}
+use Rattle.name_tree.specs.Stands.{all_leaves}
 use Rattle.object_model.proofs.StandsLaid.{within-stands, stands-read}
 use Rattle.object_model.proofs.model.Model.leaves_of.Goals as goal
 

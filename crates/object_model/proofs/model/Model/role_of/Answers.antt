@@ -1,6 +1,6 @@
 -- why `model::Model::role_of` answers as its contract says
 use Rattle.std.proofs.Common.{◌∙◌}
-use Rattle.node_rows.specs.declared.stands.Stand.{Stand}
+use Rattle.name_tree.specs.declared.stands.Stand.{Stand}
 use Rattle.name_leaves.specs.declared.what.What.TheVariants as whats
 use Rattle.object_model.proofs.StandsLaid.{within-stands, stands-read}
 use Rattle.object_model.proofs.model.Model.role_of.Goals as goal

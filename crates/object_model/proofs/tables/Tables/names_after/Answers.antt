@@ -2,9 +2,9 @@
 use Rattle.std.proofs.Common.{◌∙◌, sym, ap, map}
 use Rattle.name_order.specs.Sorting.{name_at}
 use Rattle.name_leaves.specs.Numbers.{number_in}
-use Rattle.node_finding.specs.Directories.{IsDirectory, items_at}
-use Rattle.node_finding.proofs.ResolveLaws.{variables, no_variables}
-use Rattle.node_finding.proofs.DirectoryLaws.{directory-at}
+use Rattle.name_tree.specs.Directories.{IsDirectory, items_at}
+use Rattle.name_tree.proofs.ResolveLaws.{variables, no_variables}
+use Rattle.name_tree.proofs.DirectoryLaws.{directory-at}
 use Rattle.object_model.proofs.tables.Tables.names_after.Goals as goal
 
 pub returns-in-None : goal.returns-in-None

@@ -3,7 +3,7 @@ use Rattle.std.proofs.Common.{◌≡◌, ◌∙◌, subst, sym, ap, map, []}
 use Rattle.bay_model.specs.Configured.{domains_after}
 use Rattle.bay_model.specs.Named.{nodes, set_defined}
 use Rattle.bay_model.specs.NamedLines.{domains}
-use Rattle.node_finding.specs.Finding.{Finds}
+use Rattle.name_tree.specs.Finding.{Finds}
 use Rattle.object_model.specs.Tables.{set_row}
 use Rattle.object_model.proofs.ListingLaws.{all-rows, all-names, all-stands-listed, all-leaves-listed}
 use Rattle.object_model.proofs.tables.Tables.of.Goals as goal

@@ -7,7 +7,7 @@ use Rattle.stream_lines.specs.Shapes.{IsShape}
 use Rattle.record_steps.specs.declared.heard.Heard.{Heard}
 use Rattle.record_steps.specs.Streams.{made}
 use Rattle.record_steps.specs.Telling.{telling, most_steps}
-use Rattle.record_forms.specs.Formed.{form_in}
+use Rattle.record_steps.specs.Formed.{form_in}
 use Rattle.record_session.specs.Plays.{IsReady, most_of}
 use Rattle.record_session.proofs.PlayLaws.{told-ready, passes-line, plays-line, most-told, within-more}
 use Rattle.record_session.proofs.playing.Playing.play.Goals as goal

@@ -1,2 +1,0 @@
--- What is answered to a configuration.
-pub mod Checked

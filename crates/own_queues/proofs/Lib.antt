@@ -1,5 +1,0 @@
--- the laws of this crate, each file its own subject
-pub mod SingleLaws
-pub mod SetLaws
-pub mod OwedLaws
-pub mod QueueLaws

@@ -1,2 +1,0 @@
--- what the associations are, by their numbers
-pub mod Formed

@@ -1,2 +1,0 @@
--- what holds of whole records
-pub mod Grammar

@@ -1,8 +1,0 @@
--- what the loops of `sizes::are_too_long` keep
-use Rattle.std.proofs.Common.{◌≡◌, ◌+◌, length, drop}
-use Rattle.std.specs.Prelude.{min}
-use Rattle.reply_parts.proofs.SizeLaws.{octets}
-use Rattle.reply_parts.proofs.sizes.are_too_long.Given as goal
-
-abbrev pub invariant-loop-one : goal.invariant-loop-one
-invariant-loop-one l = min (l.sum + length (octets (drop l.one-index l.results))) 4294967295 ≡ min (length (octets l.results)) 4294967295

@@ -1,2 +1,0 @@
--- results, as far as a PDU can hold them
-pub mod Held

@@ -1,3 +1,0 @@
--- The laws of casting.
-pub mod CastLaws
-pub mod SeatLaws

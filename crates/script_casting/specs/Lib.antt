@@ -1,2 +1,0 @@
--- The actors of a plan.
-pub mod Casting

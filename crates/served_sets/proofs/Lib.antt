@@ -1,6 +1,0 @@
--- the members of data sets, and their shapes
-pub mod ShapeLaws
--- the book, and what a DatSet finds in it
-pub mod BookLaws
--- the data set of a block, as an index holds it
-pub mod IndexLaws

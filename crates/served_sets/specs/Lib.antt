@@ -1,2 +1,0 @@
--- which data sets are served
-pub mod Served

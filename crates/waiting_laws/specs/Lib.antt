@@ -1,2 +1,0 @@
--- what waits for an association
-pub mod WaitsFor

@@ -1,2 +1,0 @@
--- the laws of this crate, each file its own subject
-pub mod WrittenLaws

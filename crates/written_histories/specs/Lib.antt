@@ -1,2 +1,0 @@
--- the history that a record of a race has
-pub mod Written
