@@ -162,7 +162,7 @@ module _ (c : Config) (text : List ℕ) (is : IsText c text) (steps : List (List
   whole-lines = line-more (codes "record 1") (text ++ tail) head-clean ∙ ap (λ (ls : List (List ℕ)). codes "record 1" ∷ ls) text-lines
 
   abbrev back : Recorded
-  back = record { config = c; steps = steps_of c (codes "end" ∷ onto [] steps) }
+  back = record { config = c; lines = codes "end" ∷ onto [] steps; steps = steps_of c (codes "end" ∷ onto [] steps) }
 
   whole-text : octets_of (is.inner ++ codes "end" ∷ []) ≡ text
   whole-text = flat_map-append (λ (l : List ℕ). l ++ 10 ∷ []) is.inner (codes "end" ∷ []) ∙ sym is.octets
@@ -176,7 +176,7 @@ module _ (c : Config) (text : List ℕ) (is : IsText c text) (steps : List (List
       ∙ (ap of_parted (parted-inner is.inner (steps ++ codes "end" ∷ []) is.are_inner)
       ∙ (ap (λ t. recorded (config_at t) (steps ++ codes "end" ∷ [])) whole-text
       ∙ (ap (λ r. recorded r (steps ++ codes "end" ∷ [])) is.config
-      ∙ ap (λ ls. Some (record { config = c; steps = steps_of c ls })) (onto-append [] steps (codes "end" ∷ [])))))
+      ∙ ap (λ ls. Some (record { config = c; lines = ls; steps = steps_of c ls })) (onto-append [] steps (codes "end" ∷ [])))))
 
   end-parts : parts_of back.steps ≡ parts_of (steps_of c (onto [] steps))
   end-parts =

@@ -12,8 +12,6 @@ use Rattle.text_words.specs.Words.{words_of}
 use Rattle.cfg_parser.specs.Looking.{config_at}
 use Rattle.cfg_text.proofs.WholeLaws.{config-read}
 use Rattle.run_record.specs.Judging as judging
-use Rattle.run_record.specs.Spelled.{words}
-use Rattle.run_record.specs.Grammar.{Spells}
 use Rattle.run_record.specs.declared.line.RecLine.{RecLine}
 use Rattle.run_record.specs.declared.line.RecLine.TheVariants as lines
 use Rattle.run_record.proofs.ReadLaws.{line-read}
@@ -32,6 +30,7 @@ use Rattle.record_outcome.specs.Records.{Outcome, limit, most_lines, pieces, pas
 use Rattle.record_outcome.specs.declared.status.Status.{Status}
 use Rattle.record_outcome.specs.declared.status.Status.TheVariants as statuses
 use Rattle.record_outcome.proofs.LineLaws.{run-line}
+use Rattle.record_outcome.proofs.LastLaws.{end-stops}
 use Rattle.std.proofs.lemmas.List.Elements.{All-from_recursion}
 use Rattle.record_outcome.specs.Grammar.{AreDone, CanBeDone, IsStepLine, AreStepLines, IsRemark, IsInner, Each, record_octets, IsRecord}
 use Rattle.record_outcome.proofs.HistoryLaws.{standing, grown, onto-line, onto-behind, at, onwards}
@@ -146,14 +145,6 @@ steps-go long count c before (l ∷ ls) more are low =
     ap (status-of long count (playing c (standing c before))) (line-first l ls more)
     ∙ (line-goes long count (playing c (standing c before)) (playing c (standing c (l ∷ before))) l step.0 (octets_of ls ++ more) are.0.whole (within (suc count) (playing c (standing c before)) l (omega (arith, low)) ∙ step.1)
     ∙ (steps-go long (suc count) c (l ∷ before) ls more are.1 (omega (arith, low)) ∙ ap (λ n. status-of long n (playing c (standing c (onto (l ∷ before) ls))) more) next))
-
-end-spelled : Spells (codes "end") lines.End
-unfolding words
-end-spelled = record { short = omega arith; text_ = refl; words_ = refl; ranges = tt }
-
-end-stops : (number : ℕ) (c : Config) (s : Played) → step_at number c s (codes "end") ≡ stops statuses.Ok (codes "end\n")
-unfolding step_at told_of played
-end-stops number c s = ap (told_at number c s) (line-read (codes "end") lines.End end-spelled)
 
 no-newline-end : NoNewline (codes "end")
 no-newline-end = All-from_recursion (λ b. (b == 10) ≡ false) (codes "end") (refl, (refl, (refl, tt)))

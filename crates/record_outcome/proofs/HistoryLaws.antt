@@ -3,6 +3,8 @@ use Rattle.std.proofs.Common.{◌≡◌, ◌+◌, ◌==◌, ◌&&◌, ℕ, suc, 
 use Rattle.std.specs.Prelude.{Option, None, Some, IfSome, Result, Ok, Err, codes, map, nat_lt, if◌then◌else◌}
 use Rattle.std.specs.Option.{option_map, option_and_then}
 use Rattle.std.specs.Str.{bytes_eq}
+use Rattle.std.proofs.lemmas.List.Elements.{All-nil, All-cons}
+use Rattle.std.proofs.lemmas.Slice.Eq.{bytes_eq-Decides}
 use Rattle.sv_base.specs.declared.config.Config.{Config}
 use Rattle.bay_model.specs.Named.{configured_model}
 use Rattle.bay_model.specs.Answers.{Turn, answer}
@@ -26,7 +28,7 @@ use Rattle.record_steps.specs.declared.heard.Heard.TheVariants.{Tells, Makes}
 use Rattle.record_steps.specs.Forms.{Form, shape_of, form_behind}
 use Rattle.record_outcome.specs.Histories.{ended_pieces, behind_heading, Parted, with_line, parted, octets_of, form_after, form_at, form_of, said_in, said, moment_after, moment_of, Part, stepped, written as answered, part_of, parts_in, steps_of, onto, Recorded, recorded, lines_of, history_of}
 use Rattle.record_outcome.specs.Texts.{parts_of, turns_of, turns_in, text_behind, text_of, record_text}
-use Rattle.record_outcome.proofs.LastLaws.{told-last, end-line}
+use Rattle.record_outcome.proofs.LastLaws.{told-last, end-line, end-stops}
 use Rattle.record_outcome.specs.Played.{Played, start, turn_at, past_line}
 use Rattle.record_outcome.specs.Moves.{Place, Move, goes, stops, opening, configuring, playing}
 use Rattle.record_outcome.specs.Openings.{headed, opening_at, started, configuring_at}
@@ -34,7 +36,7 @@ use Rattle.record_outcome.specs.Steps.{stop_of, accepted, then_on, heard_on, pla
 use Rattle.record_outcome.specs.Records.{Outcome, limit, most_lines, pieces, refused_before, passed, missing, has_begun, unended, ended, lines_at, line_at, behind, moved, run, outcome}
 use Rattle.record_outcome.specs.declared.status.Status.{Status}
 use Rattle.record_outcome.specs.declared.status.Status.TheVariants as statuses
-use Rattle.record_outcome.specs.Written.{IsAccepted, MeetsFull, StopsBehind, end_of, IsWritten, TextIsOfHistory, WritesHistory}
+use Rattle.record_outcome.specs.Written.{IsAccepted, MeetsFull, HasNoEnd, IsUnended, StopsBehind, end_of, IsWritten, TextIsOfHistory, WritesHistory}
 use Rattle.record_outcome.specs.Judgements.{Answers}
 
 -- ---- the parts of a piece
@@ -125,8 +127,8 @@ onto-line c before line r t is says P p = subst (λ r. P r (said_in c (form_of b
 abbrev IsFrom : Place → Of → List ℕ → Type 0
 IsFrom opening h written = ((ls : List (List ℕ)) → h ls ≡ history_of ls) × (written ≡ [])
 IsFrom (configuring n text) h written = ((ls : List (List ℕ)) → h ls ≡ configured text ls) × (written ≡ [])
-IsFrom (playing c s) h written = (before : List (List ℕ)) × ((ls : List (List ℕ)) → h ls ≡ Some (record { config = c; steps = steps_of c (onto before ls) }))
-    × (written ≡ text_of c (steps_of c before)) × (s ≡ standing c before) × IsHistory (configured_model c) (turns_in (steps_of c before))
+IsFrom (playing c s) h written = (before : List (List ℕ)) × ((ls : List (List ℕ)) → h ls ≡ Some (record { config = c; lines = onto before ls; steps = steps_of c (onto before ls) }))
+    × (written ≡ text_of c (steps_of c before)) × (s ≡ standing c before) × IsHistory (configured_model c) (turns_in (steps_of c before)) × HasNoEnd before
 
 text-here : (place : Place) (h : Of) (written : List ℕ) → IsFrom place h written → written ≡ record_text (h [])
 text-here opening h written f = f.1 ∙ sym (ap record_text (f.0 []))
@@ -236,7 +238,7 @@ module _ (h : Of) (count : ℕ) (line : List ℕ) (ls : List (List ℕ)) (status
   started-stops n (Err faults.Memory) none e = stop-by statuses.Memory [] e (refl, none)
 
   -- a step line, behind others
-  module _ (c : Config) (before : List (List ℕ)) (history : (ls : List (List ℕ)) → h ls ≡ Some (record { config = c; steps = steps_of c (onto before ls) })) where
+  module _ (c : Config) (before : List (List ℕ)) (history : (ls : List (List ℕ)) → h ls ≡ Some (record { config = c; lines = onto before ls; steps = steps_of c (onto before ls) })) (none : HasNoEnd before) where
     -- a step of it finds the queue full, behind the parts of it that come before
     full : (r : Result RecLine Kind) (told_ : Told) (later earlier : List Part) (t : Turn) (shape : Shape) (a : ℕ) → judging.line_at line ≡ r → said_in c (form_of before r) r ≡ told_ → parts_by c before r told_ ≡ later ++ stepped t shape ∷ earlier
         → fault (configured_model c) (turns_in (earlier ∷ steps_of c before)) t ≡ Some (QueueFull a) → MeetsFull (h (line ∷ []))
@@ -275,7 +277,7 @@ module _ (h : Of) (count : ℕ) (line : List ℕ) (ls : List (List ℕ)) (status
         let s = heard-stops (suc count) c shape (moment_of c before) (λ a. form_behind a l (form_at a before)) hs [] (parts_of (steps_of c before)) [] status text e in
         fault-stops (Ok l) (heard hs) s.0 s.2 s.1 shape s.3 is says s.4 s.5 s.6
     played-stops l (refused kind) is says ends e = record-stops kind e
-    played-stops l last is says ends e = stop-by statuses.Ok (codes "end\n") e (refl, (ls, ap (λ l. l ∷ ls) (ends refl)))
+    played-stops l last is says ends e = stop-by statuses.Ok (codes "end\n") e (refl, ((ls, ap (λ l. l ∷ ls) (ends refl)), subst IsUnended (sym (history [])) none))
 
     step-stops : step_at (suc count) c (standing c before) line ≡ stops status text → Here
     unfolding step_at
@@ -313,7 +315,7 @@ stops-here place h written count line ls status text f e = by (nat_lt most_lines
         → StopsHere h status text count (line ∷ ls)
     end true ends e = started-stops h count line ls status text n (config_at (before ++ (line ++ 10 ∷ []))) (f.0 []) e
     end false ends e = absurd cc
-  below (playing c s) f e = step-stops h count line ls status text c f.0 f.1 (ap (λ s. step_at (suc count) c s line) (sym f.3) ∙ e)
+  below (playing c s) f e = step-stops h count line ls status text c f.0 f.1 f.5 (ap (λ s. step_at (suc count) c s line) (sym f.3) ∙ e)
 
   by : (b : Bool) → (if b then stops (passed 1 (suc count) place) [] else lines_at (suc count) place line) ≡ stops status text → StopsHere h status text count (line ∷ ls)
   by true e = stop-by h count line ls status text (passed 1 (suc count) place) [] e (passed-stops h count (line ∷ ls) 1 place written (λ e. cc) f)
@@ -354,13 +356,13 @@ opening-on h written line number to text f e = by (is_long line) (is_skipped lin
 
 started-on : (h : Of) (written line : List ℕ) (n : ℕ) (r : Result Config CfgFault) (to : Place) (text : List ℕ) → written ≡ [] → ((ls : List (List ℕ)) → h (line ∷ ls) ≡ recorded r ls) → started n r ≡ goes to text
     → On h written line to text
-started-on h written line n (Ok c) to text none whole e = on-by h written line (playing c start) to [] text e ([], whole, none-more written none, refl, tt)
+started-on h written line n (Ok c) to text none whole e = on-by h written line (playing c start) to [] text e ([], whole, none-more written none, refl, tt, All-nil (λ line. bytes_eq line (codes "end") ≡ false))
 started-on h written line n (Err (faults.Refused l kind)) to text none whole e = absurd cc
 started-on h written line n (Err faults.Memory) to text none whole e = absurd cc
 
 -- a step line
 module _ (h : Of) (written line : List ℕ) (c : Config) (before : List (List ℕ)) (number : ℕ) (to : Place) (text : List ℕ) where
-  module _ (history : (ls : List (List ℕ)) → h ls ≡ Some (record { config = c; steps = steps_of c (onto before ls) })) (wrote : written ≡ text_of c (steps_of c before)) (is-history : IsHistory (configured_model c) (turns_in (steps_of c before))) where
+  module _ (history : (ls : List (List ℕ)) → h ls ≡ Some (record { config = c; lines = onto before ls; steps = steps_of c (onto before ls) })) (wrote : written ≡ text_of c (steps_of c before)) (is-history : IsHistory (configured_model c) (turns_in (steps_of c before))) (none : HasNoEnd (line ∷ before)) where
     -- the line is read so, and says t
     module _ (r : Result RecLine Kind) (t : Told) (is : judging.line_at line ≡ r) (says : said_in c (form_of before r) r ≡ t) where
       after : (more : List ℕ) → text_of c (parts_by c before r t ∷ steps_of c before) ≡ text_of c (steps_of c before) ++ more → IsHistory (configured_model c) (turns_in (parts_by c before r t ∷ steps_of c before))
@@ -371,6 +373,7 @@ module _ (h : Of) (written line : List ℕ) (c : Config) (before : List (List �
         ap (λ w. w ++ more) wrote ∙ sym (onto-line c before line r t is says (λ q u. text_of c (parts_by c before q u ∷ steps_of c before) ≡ text_of c (steps_of c before) ++ more) told),
         onto-line c before line r t is says (λ q u. grown c before r t ≡ grown c before q u) refl,
         onto-line c before line r t is says (λ q u. IsHistory (configured_model c) (turns_in (parts_by c before q u ∷ steps_of c before))) held,
+        none,
       )
 
     played-on : (l : RecLine) (t : Told) → judging.line_at line ≡ Ok l → told_of c (form_at (association_of l) before) l ≡ t
@@ -412,7 +415,12 @@ goes-on place h written number line to text f e = by (nat_lt most_lines number) 
     end : (b : Bool) → bytes_eq line (codes "end") ≡ b → (if b then started n (config_at (before ++ (line ++ 10 ∷ []))) else goes (configuring n (before ++ (line ++ 10 ∷ []))) []) ≡ goes to text → On h written line to text
     end true ends e = started-on h written line n (config_at (before ++ (line ++ 10 ∷ []))) to text f.1 (λ ls. f.0 (line ∷ ls) ∙ configured-end before line ls ends) e
     end false ends e = on-by h written line (configuring n (before ++ (line ++ 10 ∷ []))) to [] text e (λ ls. f.0 (line ∷ ls) ∙ configured-more before line ls ends, none-more written f.1)
-  below (playing c s) f e = step-on h written line c f.0 number to text f.1 f.2 f.4 (ap (λ s. step_at number c s line) (sym f.3) ∙ e)
+  below (playing c s) f e = end (bytes_eq line (codes "end")) refl where
+    end : (b : Bool) → bytes_eq line (codes "end") ≡ b → On h written line to text
+    end true ends =
+        let stopped_ : stops statuses.Ok (codes "end\n") ≡ goes to text = sym (end-stops number c s) ∙ (ap (step_at number c s) (sym ((bytes_eq-Decides line (codes "end")).0 ends)) ∙ e) in
+        absurd cc
+    end false other = step-on h written line c f.0 number to text f.1 f.2 f.4 (All-cons (λ l. bytes_eq l (codes "end") ≡ false) line f.0 other f.5) (ap (λ s. step_at number c s line) (sym f.3) ∙ e)
 
   by : (b : Bool) → (if b then stops (passed 1 number place) [] else lines_at number place line) ≡ goes to text → On h written line to text
   by true e = absurd cc

@@ -1,5 +1,5 @@
 -- The line that tells that it is the last is `end`.
-use Rattle.std.proofs.Common.{◌≡◌, ℕ, Bool, true, false, List, refl}
+use Rattle.std.proofs.Common.{◌≡◌, ℕ, Bool, true, false, List, refl, ap, arith}
 use Rattle.std.specs.Prelude.{Option, None, Some, Ok, codes, if◌then◌else◌}
 use Rattle.sv_base.specs.declared.config.Config.{Config}
 use Rattle.sv_base.specs.declared.numbers.AssocNo.{AssocNo}
@@ -18,6 +18,7 @@ use Rattle.run_record.specs.declared.line.OpenForm.{OpenForm}
 use Rattle.run_record.specs.declared.line.OpenForm.TheVariants as opens
 use Rattle.run_record.specs.declared.line.RecLine.{RecLine}
 use Rattle.run_record.specs.declared.line.RecLine.TheVariants as lines
+use Rattle.run_record.proofs.ReadLaws.{line-read}
 use Rattle.run_record.proofs.ToldLaws.{line-told}
 use Rattle.run_record.specs.Grammar.{Spells}
 use Rattle.text_words.specs.Values.{hex_at}
@@ -30,6 +31,10 @@ use Rattle.record_steps.specs.Own.{own_opening}
 use Rattle.record_steps.specs.Resolved.{turn_of, opened_in, valued_as, written_as, lost_as, asked_as, spelled_as, sent_as, piece_as, fed_as, set_to, ended_as, blocked_as, told_of}
 use Rattle.record_steps.specs.Streams.{piece_at}
 use Rattle.record_steps.specs.Told.{Told, turn, refused, last}
+use Rattle.record_outcome.specs.Played.{Played}
+use Rattle.record_outcome.specs.Moves.{stops}
+use Rattle.record_outcome.specs.Steps.{played, told_at, step_at}
+use Rattle.record_outcome.specs.declared.status.Status.TheVariants as statuses
 use Rattle.record_steps.specs.declared.heard.Wired.{Wired}
 use Rattle.record_steps.specs.declared.heard.Wired.TheVariants.{Dialling, On}
 
@@ -122,3 +127,12 @@ told-last c form lines.End h = refl
 pub end-line : (text : List ℕ) → line_at text ≡ Ok lines.End → text ≡ codes "end"
 unfolding words
 end-line text is = let s : Spells text lines.End = line-told text lines.End is in s.text_
+
+end-spelled : Spells (codes "end") lines.End
+unfolding words
+end-spelled = record { short = omega arith; text_ = refl; words_ = refl; ranges = tt }
+
+-- and `end` is the last
+pub end-stops : (number : ℕ) (c : Config) (s : Played) → step_at number c s (codes "end") ≡ stops statuses.Ok (codes "end\n")
+unfolding step_at told_of played
+end-stops number c s = ap (told_at number c s) (line-read (codes "end") lines.End end-spelled)

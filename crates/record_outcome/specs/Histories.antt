@@ -108,13 +108,14 @@ abbrev pub steps_of : Config → List (List ℕ) → List (List Part)
 steps_of c [] = []
 steps_of c (line ∷ before) = parts_in (moment_of c before) (form_of before (line_at line)) (said c before line) ∷ steps_of c before
 
--- a configuration, and what the lines of the steps come to
+-- a configuration, the lines of the steps, the newest of them first, and what they come to
 pub record Recorded : Type 0 where
   pub config : Config
+  pub lines : List (List ℕ)
   pub steps : List (List Part)
 
 abbrev pub recorded : Result Config CfgFault → List (List ℕ) → Option Recorded
-recorded (Ok c) steps = Some (record { config = c; steps = steps_of c (onto [] steps) })
+recorded (Ok c) steps = Some (record { config = c; lines = onto [] steps; steps = steps_of c (onto [] steps) })
 recorded (Err fault) steps = None
 
 -- of the lines of a record, if its configuration is whole

@@ -1,5 +1,6 @@
 -- What is written to a record: the text of the history of its lines, before the one with which the reading stops.
-use Rattle.std.specs.Prelude.{◌≡◌, ◌≤◌, ℕ, suc, ◌+◌, List, [], ◌∷◌, ◌++◌, length, take, drop, codes, Option, None, Some, IfSome}
+use Rattle.std.specs.Prelude.{◌≡◌, ◌≤◌, ℕ, suc, ◌+◌, List, [], ◌∷◌, ◌++◌, length, take, drop, All, Bool, false, codes, Option, None, Some, IfSome}
+use Rattle.std.specs.Str.{bytes_eq}
 use Rattle.bay_model.specs.Named.{configured_model}
 use Rattle.bay_model.specs.Acceptance.{QueueFull, fault, IsHistory}
 use Rattle.bay_model.specs.Answers.{Turn}
@@ -34,10 +35,19 @@ MeetsFull (Some r) = MeetsFullQueue r
 abbrev pub HasCause : ℕ → Option Recorded → Type 0
 HasCause which history = which ≡ 2 → MeetsFull history
 
--- Behind line k the reading stops with this status: at the `end` of the steps; at the line that the status names, or in a
--- configuration that is refused; a line that passes limit 2 has a step for it.
+-- no line is `end`
+abbrev pub HasNoEnd : List (List ℕ) → Type 0
+HasNoEnd ls = All (λ line. bytes_eq line (codes "end") ≡ false) ls
+
+-- the configuration is whole, and none of the step lines behind it is `end`
+abbrev pub IsUnended : Option Recorded → Type 0
+IsUnended None = ⊥
+IsUnended (Some r) = HasNoEnd r.lines
+
+-- Behind line k the reading stops with this status: at the first `end` of the steps, behind a whole configuration; at the line
+-- that the status names, or in a configuration that is refused; a line that passes limit 2 has a step for it.
 abbrev pub StopsBehind : (List (List ℕ) → Option Recorded) → Status → ℕ → ℕ → List (List ℕ) → Type 0
-StopsBehind history statuses.Ok number k ls = (rest : List (List ℕ)) × (drop k ls ≡ codes "end" ∷ rest)
+StopsBehind history statuses.Ok number k ls = ((rest : List (List ℕ)) × (drop k ls ≡ codes "end" ∷ rest)) × IsUnended (history (take k ls))
 StopsBehind history (statuses.Record line kind) number k ls = line ≡ suc number
 StopsBehind history (statuses.Limit which line) number k ls = (line ≡ suc number) × HasCause which (history (take (suc k) ls))
 StopsBehind history _ number k ls = history (take k ls) ≡ None
