@@ -1,6 +1,7 @@
 -- What the content of an APDU says: the application context, the result, and the user information.
-use Rattle.std.proofs.Common.{◌≡◌, ℕ, ◌^◌, ◌<◌, true, ◌&&◌, eqb, inl, inr, List, [], ◌∷◌, Option, Some, None, Result, Ok, Err, refl, sym, ap, subst, arith}
+use Rattle.std.proofs.Common.{◌≡◌, ℕ, ◌^◌, ◌<◌, true, eqb, inl, inr, List, [], ◌∷◌, Option, Some, None, Result, Ok, Err, refl, sym, ap, subst, arith}
 use Rattle.std.proofs.lemmas.Bool.{eqb-true, eq-eqb, ne_eqb, ltb-true, lt-ltb, and_parts}
+use Rattle.list_laws.proofs.Distinct.{octets_same}
 use Rattle.list_laws.proofs.Options.{chosen, sides}
 use Rattle.ber_grammar.specs.declared.fault.BerFault.{BerFault}
 use Rattle.ber_grammar.specs.Octets.{IsBytes}
@@ -12,27 +13,13 @@ use Rattle.ber_grammar.proofs.UintLaws.{uint_again, uint_found}
 use Rattle.acse_apdu.specs.declared.codes.TheConstants.{APPLICATION_CONTEXT_NAME, RESULT, USER_INFORMATION, EXTERNAL, SINGLE_ASN1_TYPE, INTEGER, OBJECT_IDENTIFIER}
 use Rattle.acse_apdu.specs.Grammar.{mms_context, NamesMms, IsAccepted, IsContext, IsEncoding, IsExternal, Carries}
 use Rattle.ber_grammar.specs.Fields.{fields_in, field_with, with_tag, only_with}
-use Rattle.acse_apdu.specs.Contents.{is_mms, is_mms_name, names_mms, is_zero, result_at, is_accepted, is_word, is_context, value_of, behind_reference, external_of, pdu_at}
+use Rattle.acse_apdu.specs.Contents.{is_mms_name, names_mms, is_zero, result_at, is_accepted, is_word, is_context, value_of, behind_reference, external_of, pdu_at}
 use Rattle.ber_grammar.proofs.FieldLaws.{fields_again, fields_found, field_with-again, field_with-found, with_tag-again, with_tag-found, only_with-again, only_with-found, HoldOctets, fields-hold, field-holds, only-holds}
 
 -- ---- the application context
 
-is_mms-found : (octets : List ℕ) → is_mms octets ≡ true → octets ≡ mms_context
-is_mms-found [] h = absurd cc
-is_mms-found (a ∷ []) h = absurd cc
-is_mms-found (a ∷ b ∷ []) h = absurd cc
-is_mms-found (a ∷ b ∷ c ∷ []) h = absurd cc
-is_mms-found (a ∷ b ∷ c ∷ d ∷ []) h = absurd cc
-is_mms-found (a ∷ b ∷ c ∷ d ∷ e ∷ []) h =
-    let p = and_parts (eqb a 40 && eqb b 202 && eqb c 34 && eqb d 2) (eqb e 3) h in
-    let q = and_parts (eqb a 40 && eqb b 202 && eqb c 34) (eqb d 2) p.0 in
-    let r = and_parts (eqb a 40 && eqb b 202) (eqb c 34) q.0 in
-    let s = and_parts (eqb a 40) (eqb b 202) r.0 in
-    rw (eqb-true a 40 s.0, eqb-true b 202 s.1, eqb-true c 34 r.1, eqb-true d 2 q.1, eqb-true e 3 p.1) refl
-is_mms-found (a ∷ b ∷ c ∷ d ∷ e ∷ f ∷ more) h = absurd cc
-
 name_found : (o : Option Piece) → is_mms_name o ≡ true → (name : Piece) × (o ≡ Some name) × (name.octets ≡ mms_context)
-name_found (Some name) h = (name, refl, is_mms-found name.octets h)
+name_found (Some name) h = (name, refl, octets_same name.octets mms_context h)
 name_found None h = absurd cc
 
 pub names_again : (content : Piece) → NamesMms content → names_mms content ≡ true

@@ -1,17 +1,17 @@
 -- Reading what a content says: the application context, the result, and the user information.
-use Rattle.std.specs.Prelude.{ℕ, ◌^◌, Bool, false, ◌&&◌, ◌==◌, nat_lt, List, [], ◌∷◌, Option, Some, None, Result, Ok, Err, if◌then◌else◌}
+use Rattle.std.specs.Prelude.{ℕ, ◌^◌, Bool, false, ◌&&◌, ◌==◌, nat_lt, List, [], ◌∷◌, bytes_eq, Option, Some, None, Result, Ok, Err, if◌then◌else◌}
 use Rattle.ber_grammar.specs.declared.fault.BerFault.{BerFault}
 use Rattle.ber_grammar.specs.Place.{Piece, Spot}
 use Rattle.ber_grammar.specs.Reader.{and_then, kept}
 use Rattle.ber_grammar.specs.Reading.{uint_at}
 use Rattle.ber_grammar.specs.Fields.{fields_in, field_with, with_tag, only_with}
 use Rattle.acse_apdu.specs.declared.codes.TheConstants.{APPLICATION_CONTEXT_NAME, RESULT, USER_INFORMATION, EXTERNAL, SINGLE_ASN1_TYPE, INTEGER, OBJECT_IDENTIFIER}
+use Rattle.sv_base.specs.declared.object_ids.TheConstants.{MMS_CONTEXT}
 
 -- ---- the application context and the result
 
 abbrev pub is_mms : List ℕ → Bool
-is_mms (a ∷ b ∷ c ∷ d ∷ e ∷ []) = a == 0x28 && b == 0xca && c == 0x22 && d == 0x02 && e == 0x03
-is_mms octets = false
+is_mms octets = bytes_eq octets MMS_CONTEXT
 
 abbrev pub is_mms_name : Option Piece → Bool
 is_mms_name None = false

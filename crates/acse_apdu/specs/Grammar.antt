@@ -8,6 +8,7 @@ use Rattle.ber_grammar.specs.Fields.{AreFields, IsField, IsOnly, spot_in}
 use Rattle.acse_apdu.specs.declared.codes.TheConstants.{AARQ, AARE, APPLICATION_CONTEXT_NAME, RESULT, USER_INFORMATION, EXTERNAL, SINGLE_ASN1_TYPE, INTEGER, OBJECT_IDENTIFIER}
 use Rattle.acse_apdu.specs.declared.fault.AcFault.{AcFault}
 use Rattle.acse_apdu.specs.declared.fault.AcFault.TheVariants.{Apdu, ContextName, NoUserInformation}
+use Rattle.sv_base.specs.declared.object_ids.TheConstants.{MMS_CONTEXT}
 
 -- The input is one whole element with this tag, and its content is a row of whole elements.
 abbrev pub IsApdu : ℕ → Piece → Piece → Type 0
@@ -16,7 +17,7 @@ IsApdu tag input content = (e : Element) × (fields : List Spot) × Spells input
 
 -- 1.0.9506.2.3, the application context of MMS (ISO 9506-2, IEC 61850-8-1): the octets of an OBJECT IDENTIFIER
 abbrev pub mms_context : List ℕ
-mms_context = 0x28 ∷ 0xca ∷ 0x22 ∷ 0x02 ∷ 0x03 ∷ []
+mms_context = MMS_CONTEXT
 
 -- application-context-name, [1]: an OBJECT IDENTIFIER, the universal tag 6
 abbrev pub NamesMms : Piece → Type 0

@@ -5,6 +5,7 @@ use Rattle.ber_grammar.specs.Element.{Element, Spells, IsRow}
 use Rattle.ber_grammar.specs.Content.{IsUint}
 use Rattle.acse_apdu.specs.declared.codes.TheConstants.{AARQ, AARE, APPLICATION_CONTEXT_NAME, RESULT, RESULT_SOURCE_DIAGNOSTIC, SERVICE_USER, USER_INFORMATION, REASON, EXTERNAL, SINGLE_ASN1_TYPE, INTEGER, OBJECT_IDENTIFIER}
 use Rattle.acse_apdu.specs.Grammar.{mms_context}
+use Rattle.sv_base.specs.declared.object_ids.TheConstants.{BER}
 
 -- the element has this tag, and these are its elements
 pub record Holds (tag : ℕ) (e : Element) (es : List Element) : Type 0 where
@@ -22,7 +23,7 @@ HoldsResult result diagnostic = (number user null : Element) × Holds RESULT res
 -- one EXTERNAL with the direct reference 2.1.1, this number of a context, and this value
 abbrev pub HoldsExternal : Element → ℕ → List ℕ → Type 0
 HoldsExternal field context pdu = (external reference number value : Element) × Holds USER_INFORMATION field (external ∷ []) × Holds EXTERNAL external (reference ∷ number ∷ value ∷ [])
-    × (reference.tag ≡ OBJECT_IDENTIFIER) × (reference.content ≡ 0x51 ∷ 0x01 ∷ []) × (number.tag ≡ INTEGER) × IsUint number.content context × (value.tag ≡ SINGLE_ASN1_TYPE) × (value.content ≡ pdu)
+    × (reference.tag ≡ OBJECT_IDENTIFIER) × (reference.content ≡ BER) × (number.tag ≡ INTEGER) × IsUint number.content context × (value.tag ≡ SINGLE_ASN1_TYPE) × (value.content ≡ pdu)
 
 abbrev pub IsPlainAarq : List ℕ → ℕ → List ℕ → Type 0
 IsPlainAarq octets context pdu = (e name information : Element) × Spells octets e × Holds AARQ e (name ∷ information ∷ []) × HoldsName name × HoldsExternal information context pdu

@@ -4,6 +4,7 @@ use Rattle.std.specs.Prelude.{ℕ, List, [], ◌∷◌, ◌++◌}
 use Rattle.ber_write.specs.Minimal.{octets_of, uint_octets}
 use Rattle.acse_apdu.specs.declared.codes.TheConstants.{AARQ, AARE, APPLICATION_CONTEXT_NAME, RESULT, RESULT_SOURCE_DIAGNOSTIC, SERVICE_USER, USER_INFORMATION, REASON, EXTERNAL, SINGLE_ASN1_TYPE, INTEGER, OBJECT_IDENTIFIER}
 use Rattle.acse_apdu.specs.Grammar.{mms_context}
+use Rattle.sv_base.specs.declared.object_ids.TheConstants.{BER}
 
 -- application-context-name
 abbrev pub name_field : List ℕ
@@ -15,7 +16,7 @@ result_fields = octets_of RESULT (octets_of INTEGER (0 ∷ [])) ++ octets_of RES
 
 -- EXTERNAL: the direct reference is BER, 2.1.1
 abbrev pub external_content : ℕ → List ℕ → List ℕ
-external_content context pdu = octets_of OBJECT_IDENTIFIER (0x51 ∷ 0x01 ∷ []) ++ (octets_of INTEGER (uint_octets context) ++ octets_of SINGLE_ASN1_TYPE pdu)
+external_content context pdu = octets_of OBJECT_IDENTIFIER (BER) ++ (octets_of INTEGER (uint_octets context) ++ octets_of SINGLE_ASN1_TYPE pdu)
 
 -- user-information
 abbrev pub information_content : ℕ → List ℕ → List ℕ

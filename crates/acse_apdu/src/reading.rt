@@ -16,6 +16,7 @@ use crate::codes::{
 };
 use crate::fault::AcFault;
 use ber_view::{Elements, Tlv, fields, first_with, only_with, tagged, uint, whole};
+use sv_base::object_ids;
 
 /// The content of the APDU with this tag, which is all of `bytes`.
 #[tactic(auto, unfolding(crate::specs::Apdu::apdu_at))]
@@ -36,10 +37,10 @@ fn has_mms_name(content: &[u8]) -> bool
     let Some(field) = first_with(content, APPLICATION_CONTEXT_NAME) else {
         return false;
     };
-    matches!(
-        only_with(field, OBJECT_IDENTIFIER),
-        Some([0x28, 0xca, 0x22, 2, 3])
-    )
+    match only_with(field, OBJECT_IDENTIFIER) {
+        Some(name) => name == object_ids::MMS_CONTEXT.as_slice(),
+        None => false,
+    }
 }
 
 /// The result of an AARE.

@@ -12,7 +12,7 @@ use crate::codes::{
 };
 use ber_write::{put, put_uint};
 use std::alloc::{AllocError, Global};
-use sv_base::Octs;
+use sv_base::{Octs, object_ids};
 
 /// The content of an EXTERNAL.
 fn external(alloc: Global, context: u32, pdu: &[u8]) -> Result<Vec<u8>, AllocError>
@@ -20,7 +20,7 @@ fn external(alloc: Global, context: u32, pdu: &[u8]) -> Result<Vec<u8>, AllocErr
     ensures { IfOk result (λ v. v.items ≡ external_content context pdu.now) }
 {
     let mut out = Vec::new(alloc);
-    put(&mut out, OBJECT_IDENTIFIER, &[0x51, 1])?;
+    put(&mut out, OBJECT_IDENTIFIER, &object_ids::BER)?;
     put_uint(&mut out, INTEGER, u64::from(context))?;
     put(&mut out, SINGLE_ASN1_TYPE, pdu)?;
     Ok(out)

@@ -16,7 +16,7 @@ use ber_view::whole;
 use data_lengths::data_len;
 use mms_data::view_data;
 use object_model::Model;
-use sv_base::{CtlDef, NodeId, Value};
+use sv_base::{CtlDef, NodeId, Value, rejections};
 
 /// Whether a value has a spelling as Data, at most so deep.
 #[cycle(writable)]
@@ -86,7 +86,8 @@ fn can_be_replied(model: &Model, reply: &Reply) -> bool
         Reply::TypeOfNode(node) => (node.0 as usize) < model.nodes().len(),
         Reply::Read { results, .. } => are_results_writable(results.as_slice()),
         Reply::SetOf { members, .. } => are_nodes(model.nodes().len(), members.as_slice()),
-        Reply::Reject(number) => 1 <= *number && *number <= 4,
+        Reply::Reject(number) => rejections::UNKNOWN_PDU <= *number
+            && *number <= rejections::INVALID_PDU,
         _ => true,
     }
 }

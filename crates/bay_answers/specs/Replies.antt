@@ -21,11 +21,12 @@ use Rattle.bay_answers.specs.ControlPdus.{error_pdu, termination_pdu, IsShortErr
 use Rattle.bay_answers.specs.RepliesContents.{status_content, identify_content, names_content, type_content}
 use Rattle.bay_answers.specs.RepliesContents.{read_content, written_content, set_content, deleted_content}
 use Rattle.bay_answers.specs.declared.tags.TheConstants.{DEFINE_LIST, IDENTIFY, STATUS}
+use Rattle.sv_base.specs.declared.rejections.TheConstants.{UNKNOWN_PDU, UNKNOWN_SERVICE, INVALID_ARGUMENT, INVALID_PDU}
+use Rattle.bay_model.specs.declared.service_errors.TheConstants.{SERVICE, PDU_SIZE}
 
--- the response of the service with this tag; where it is longer than the size, the error class service, 4, with the code
--- pdu-size, 3
+-- the response of the service with this tag; where it is longer than the size, the error class service with the code pdu-size
 abbrev pub response : ℕ → ℕ → ℕ → List ℕ → List ℕ
-response size invoke tag content = if nat_le (length (answer_octets invoke tag content)) size then answer_octets invoke tag content else error_octets invoke 4 3
+response size invoke tag content = if nat_le (length (answer_octets invoke tag content)) size then answer_octets invoke tag content else error_octets invoke SERVICE PDU_SIZE
 
 -- ---- GetNameList
 
@@ -51,9 +52,9 @@ names_response size invoke names = names_octets invoke (shown size invoke names)
 
 -- ---- replies
 
--- Rejects 2 and 3 are of a request with an invoke number.
+-- A reject of an unknown service or of an argument is of a request with an invoke number.
 abbrev pub rejected : ℕ → ℕ → List ℕ
-rejected invoke n = reject_octets (if n == 2 || n == 3 then Some invoke else None) n
+rejected invoke n = reject_octets (if n == UNKNOWN_SERVICE || n == INVALID_ARGUMENT then Some invoke else None) n
 
 -- In the response, the tags of Status and Identify are those of structures, and Define is a NULL.
 abbrev pub reply_octets : Config → ℕ → ℕ → Reply → List ℕ
@@ -93,7 +94,7 @@ abbrev pub CanBeReplied : Config → Reply → Type 0
 CanBeReplied c (replies.TypeOfNode n) = IsNode c n
 CanBeReplied c (replies.Read asked results) = All IsWritable results
 CanBeReplied c (replies.SetOf deletable members) = All (IsNode c) members
-CanBeReplied c (replies.Reject n) = (1 ≤ n) × (n ≤ 4)
+CanBeReplied c (replies.Reject n) = (UNKNOWN_PDU ≤ n) × (n ≤ INVALID_PDU)
 CanBeReplied c _ = Unit {0}
 
 abbrev pub CanBeSent : Config → Output → Type 0

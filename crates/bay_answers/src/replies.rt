@@ -6,6 +6,7 @@ ghost use Rattle.mms_pdu.specs.ReplyOctets.{concluded_octets};
 ghost use Rattle.bay_answers.specs.Replies.{rejected as rejected_of, reply_octets as octets_of_reply, output_pdus as pdus_of, CanBeReplied};
 ghost use Rattle.bay_answers.specs.Replies.{CanBeSent, IsWritable};
 ghost use Rattle.bay_answers.specs.ControlPdus.{error_pdu as pdu_of_error, termination_pdu as pdu_of_termination, IsShortTermination};
+ghost use Rattle.sv_base.specs.declared.rejections.TheConstants.{UNKNOWN_PDU, INVALID_PDU};
 
 use crate::control_pdus::{error_pdu, termination_pdu};
 use crate::replies_contents::{deleted, identify, members_of_set, read, type_of_node, wrote};
@@ -18,7 +19,7 @@ use mms_pdu::{write_error, write_reject};
 use object_model::Model;
 use report_cut::{Pdus, cut};
 use std::alloc::{AllocError, Global};
-use sv_base::Octs;
+use sv_base::{Octs, rejections};
 
 /// What the response of Status holds (ISO 9506-2, Status-Response): vmdLogicalStatus state-changes-allowed, vmdPhysicalStatus
 /// operational.
@@ -33,11 +34,11 @@ fn concluded(alloc: Global) -> Result<Octs, AllocError>
 
 /// A reject; those that answer a request have its invoke number.
 fn rejected(alloc: Global, invoke: u32, number: u8) -> Result<Octs, AllocError>
-    requires least { 1 ≤ number }
-    requires most { number ≤ 4 }
+    requires least { UNKNOWN_PDU ≤ number }
+    requires most { number ≤ INVALID_PDU }
     ensures { IfOk result (λ o. o ≡ rejected_of invoke number) }
 {
-    if number == 2 || number == 3 {
+    if number == rejections::UNKNOWN_SERVICE || number == rejections::INVALID_ARGUMENT {
         write_reject(alloc, Some(invoke), number)
     } else {
         write_reject(alloc, None, number)

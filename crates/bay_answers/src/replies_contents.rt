@@ -13,7 +13,7 @@ ghost use Rattle.bay_answers.specs.Replies.{IsWritable, IsNode, response};
 use crate::replies_elements::{add_truth, begin, element_len, respond};
 use crate::replies_variables::{add_nodes, asked_octets};
 use crate::tags;
-use bay_model::Asked;
+use bay_model::{Asked, service_errors};
 use ber_write::{add, put_head, put_uint, uint_len};
 use data_lengths::data_len;
 use mms_data::{write_data, write_type};
@@ -149,7 +149,12 @@ pub(crate) fn read(
 {
     let len = results_len(results);
     if len > size {
-        return write_error(alloc, invoke, 4, 3);
+        return write_error(
+            alloc,
+            invoke,
+            service_errors::SERVICE,
+            service_errors::PDU_SIZE,
+        );
     }
     let asked = asked_octets(alloc, asked)?;
     match begin(
@@ -163,7 +168,12 @@ pub(crate) fn read(
             put_read(&mut out, asked.as_slice(), len, results)?;
             Ok(Octs::from_vec(out))
         }
-        None => write_error(alloc, invoke, 4, 3),
+        None => write_error(
+            alloc,
+            invoke,
+            service_errors::SERVICE,
+            service_errors::PDU_SIZE,
+        ),
     }
 }
 

@@ -7,6 +7,7 @@ ghost use Rattle.report_cut.specs.Fields.{truth};
 ghost use Rattle.bay_answers.specs.Replies.{response as response_of};
 ghost use Rattle.bay_answers.specs.RepliesSizes.{service_size, begun};
 
+use bay_model::service_errors;
 use ber_write::{length_of, put, put_head, put_uint, uint_len};
 use mms_elements::tags;
 use mms_pdu::write_error;
@@ -88,6 +89,11 @@ pub(crate) fn respond(
             out.extend_from_slice(content)?;
             Ok(Octs::from_vec(out))
         }
-        None => write_error(alloc, invoke, 4, 3),
+        None => write_error(
+            alloc,
+            invoke,
+            service_errors::SERVICE,
+            service_errors::PDU_SIZE,
+        ),
     }
 }

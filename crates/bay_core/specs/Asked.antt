@@ -31,6 +31,7 @@ use Rattle.value_store.specs.declared.fault.SetFault.TheVariants as faults
 use Rattle.window_core.specs.Points.{at}
 use Rattle.bay_core.specs.Standing.{StandsAt}
 use Rattle.bay_core.specs.State.{State}
+use Rattle.bay_model.specs.declared.access_errors.TheConstants.{OBJECT_ACCESS_DENIED, TYPE_INCONSISTENT, OBJECT_VALUE_INVALID}
 
 -- the reply to a's request at this moment, after all points that the state stands for
 abbrev pub IsReplyAt : State → ℕ → ℕ → Service → Reply → Type 0
@@ -72,9 +73,9 @@ AreWrites old new a ss codes = (c : Config) (n t : ℕ) (past : Past) → Stands
 
 -- the code of a refused write of an attribute that doesn't stand under SE
 abbrev pub set_code : SetFault → ℕ
-set_code faults.Kind = 7
-set_code faults.ReadOnly = 3
-set_code faults.TooLong = 11
+set_code faults.Kind = TYPE_INCONSISTENT
+set_code faults.ReadOnly = OBJECT_ACCESS_DENIED
+set_code faults.TooLong = OBJECT_VALUE_INVALID
 
 -- the target and the value of a write that fits the configuration
 abbrev pub IsFit : Config → Target → Value → Type 0

@@ -16,6 +16,7 @@ use Rattle.bay_replies.specs.declared.replies.Replies.{Replies}
 use Rattle.bay_replies.specs.Reading.{selecting_in}
 use Rattle.bay_replies.specs.Standing.{IsServed}
 use Rattle.bay_core.specs.State.{State}
+use Rattle.bay_model.specs.declared.service_errors.TheConstants.{SERVICE, PDU_SIZE}
 
 -- the parts of a bay, lent to a reply as of the arrival of a step at a moment
 pub record IsLent (r : Replies) (s : State) (moment : ℕ) : Type 0 where
@@ -65,5 +66,5 @@ in_turns a c (x ∷ xs) t (r ∷ rs) = in_turn (selecting_in c x) t r ∷ in_tur
 
 -- the reply, where the results may have been cut as they are longer than a PDU of this size
 abbrev pub reply_of : ℕ → Asked → Bool → List (Result Value ℕ) → Reply
-reply_of size asked true results = replies.Error 4 3
+reply_of size asked true results = replies.Error SERVICE PDU_SIZE
 reply_of size asked false results = read_reply size asked results

@@ -9,12 +9,13 @@ use crate::bay::Bay;
 use bay_histories::StepFault;
 use bay_model::{
     Act, Acts, Answer, ApplError, ApplErrors, Codes, Output, Reply, Request, Service, Writes,
+    service_errors,
 };
 use bay_queues::Heard;
 use bay_replies::{Replies, set_name};
 use data_sets::SetBook;
 use std::alloc::{AllocError, Global};
-use sv_base::{ActorNo, AssocNo, CtlNo, Moment, NodeId, Octs, Value, Values};
+use sv_base::{ActorNo, AssocNo, CtlNo, Moment, NodeId, Octs, Value, Values, rejections};
 
 /// What a request came to: its reply with the errors before it, the controls that act, and those whose terminations follow the reply.
 #[derive(Drop)]
@@ -212,11 +213,14 @@ impl Bay {
         let _ = &self.sets;
         let Some(nodes) = members_named(alloc, &self.sets, domain, item)? else {
             self.arrive(moment);
-            return Ok(Reply::Error { class: 7, code: 2 });
+            return Ok(Reply::Error {
+                class: service_errors::ACCESS,
+                code: service_errors::OBJECT_NON_EXISTENT,
+            });
         };
         if nodes.len() != values.len() {
             self.arrive(moment);
-            return Ok(Reply::Reject(3));
+            return Ok(Reply::Reject(rejections::INVALID_ARGUMENT));
         }
         let codes = self.answer_members(alloc, moment, a, nodes.as_slice(), values.as_slice())?;
         Ok(Reply::Wrote(Codes::from_vec(codes)))

@@ -5,7 +5,7 @@ ghost use Rattle.bay_model.specs.declared.reply.Reply.TheVariants as replies;
 ghost use Rattle.data_sets.specs.Turns.{error_of};
 
 use crate::bay::Bay;
-use bay_model::{Reply, Targets};
+use bay_model::{Reply, Targets, service_errors};
 use bay_replies::set_name;
 use data_sets::{DefineFault, Definition};
 use object_model::is_set_name;
@@ -18,9 +18,18 @@ fn refusal(fault: DefineFault) -> Reply
     ensures { result ≡ replies.Error (error_of fault).0 (error_of fault).1 }
 {
     match fault {
-        DefineFault::Exists => Reply::Error { class: 2, code: 5 },
-        DefineFault::NoSuchMember => Reply::Error { class: 7, code: 2 },
-        DefineFault::Full => Reply::Error { class: 3, code: 0 },
+        DefineFault::Exists => Reply::Error {
+            class: service_errors::DEFINITION,
+            code: service_errors::OBJECT_EXISTS,
+        },
+        DefineFault::NoSuchMember => Reply::Error {
+            class: service_errors::ACCESS,
+            code: service_errors::OBJECT_NON_EXISTENT,
+        },
+        DefineFault::Full => Reply::Error {
+            class: service_errors::RESOURCE,
+            code: service_errors::RESOURCE_OTHER,
+        },
     }
 }
 

@@ -7,7 +7,7 @@ ghost use Rattle.bay_core.specs.Deleted.{is_reported as is_reported_by};
 ghost use Rattle.bay_values.specs.Marked.{one_if};
 
 use crate::bay::Bay;
-use bay_model::{Reply, SetName, SetNames};
+use bay_model::{Reply, SetName, SetNames, service_errors};
 use data_sets::{DeleteFault, is_reference};
 use report_block::ReportBlock;
 use std::alloc::AllocError;
@@ -121,7 +121,10 @@ impl Bay {
         let _ = &self.sets;
         if scope != 0 {
             self.arrive(moment);
-            return Ok(Reply::Error { class: 7, code: 3 });
+            return Ok(Reply::Error {
+                class: service_errors::ACCESS,
+                code: service_errors::OBJECT_ACCESS_DENIED,
+            });
         }
         if u32::try_from(names.len()).is_err() {
             return Err(AllocError);

@@ -12,21 +12,24 @@ ghost use Rattle.bay_replies.specs.Reading.{selecting_in, IsTarget};
 ghost use Rattle.bay_core.specs.Turned.{after_turn, after_turns, empty_text, in_turns, reply_of, with_turn};
 
 use crate::bay::Bay;
-use bay_model::{Asked, Reply, Results, Target, Targets};
+use bay_model::{Asked, Reply, Results, Target, Targets, service_errors};
 use bay_queues::Queues;
 use bay_replies::{Read, are_too_long, asked_variables};
 use object_model::{Model, What};
 use std::alloc::{AllocError, Global};
 use sv_base::{AssocNo, CtlNo, Moment, Octs, Value};
 
-/// The reply to Read, where the results are these, or were cut since they are longer than a PDU of this size: the error of class 4,
-/// service, with code 3, pdu-size, where they are longer.
+/// The reply to Read, where the results are these, or were cut since they are longer than a PDU of this size: the error of class
+/// service with the code pdu-size, where they are longer.
 fn read_reply(size: u32, asked: Asked, read: Read) -> Reply
     requires { size < 4294967295 }
     ensures { result ≡ reply_of size asked read.is_cut read.results.items }
 {
     if read.is_cut || are_too_long(size, read.results.as_slice()) {
-        return Reply::Error { class: 4, code: 3 };
+        return Reply::Error {
+            class: service_errors::SERVICE,
+            code: service_errors::PDU_SIZE,
+        };
     }
     Reply::Read {
         asked,

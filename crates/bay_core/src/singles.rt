@@ -4,9 +4,10 @@
 ghost use Rattle.std.specs.Prelude.{◌≡◌, ◌≤◌, ◌<◌, ◌++◌, ◌∷◌, [], vec_len, vec_capacity, if◌then◌else◌};
 ghost use Rattle.bay_core.specs.Asked.{set_code};
 ghost use Rattle.sv_base.specs.Kinds.{is_kind, text};
+ghost use Rattle.bay_model.specs.declared.access_errors.TheConstants.{OBJECT_ACCESS_DENIED, TYPE_INCONSISTENT};
 
 use crate::bay::Bay;
-use bay_model::{ApplError, Target, Write};
+use bay_model::{ApplError, Target, Write, access_errors};
 use bay_queues::Heard;
 use block_events::{Source, event_all};
 use object_model::What;
@@ -18,9 +19,9 @@ fn refusal(fault: SetFault) -> u8
     ensures { result ≡ set_code fault }
 {
     match fault {
-        SetFault::Kind => 7,
-        SetFault::ReadOnly => 3,
-        SetFault::TooLong => 11,
+        SetFault::Kind => access_errors::TYPE_INCONSISTENT,
+        SetFault::ReadOnly => access_errors::OBJECT_ACCESS_DENIED,
+        SetFault::TooLong => access_errors::OBJECT_VALUE_INVALID,
     }
 }
 
@@ -35,12 +36,12 @@ fn add_code(codes: &mut Vec<Result<(), u8>>, code: Result<(), u8>)
 
 /// The code of a write of SBO (ISO 9506-2, DataAccessError): object-access-denied behind type-inconsistent.
 fn selecting_code(value: &Value) -> u8
-    ensures { result ≡ (if is_kind (text 129) value.now then 3 else 7) }
+    ensures { result ≡ (if is_kind (text 129) value.now then OBJECT_ACCESS_DENIED else TYPE_INCONSISTENT) }
 {
     if matches!(value, Value::Text(_)) {
-        3
+        access_errors::OBJECT_ACCESS_DENIED
     } else {
-        7
+        access_errors::TYPE_INCONSISTENT
     }
 }
 
@@ -129,8 +130,8 @@ impl Bay {
             What::Component(b, comp) => self.write_at_arrival(a, BlockNo(b), comp, value),
             What::Setting(domain, part) => self.write_part(a, domain, part, value),
             What::Selecting(_) => Err(selecting_code(value)),
-            What::Structure => Err(3),
-            What::Withheld => Err(3),
+            What::Structure => Err(access_errors::OBJECT_ACCESS_DENIED),
+            What::Withheld => Err(access_errors::OBJECT_ACCESS_DENIED),
             What::Calling(..) => unreachable!(),
         }
     }
@@ -154,8 +155,8 @@ impl Bay {
     {
         match target {
             Target::Node(node, _) => self.write_in_turn(a, *node, value, blame, heard),
-            Target::Missing(_) => heard.code(Err(10)),
-            Target::Alternate(_) => heard.code(Err(9)),
+            Target::Missing(_) => heard.code(Err(access_errors::OBJECT_NON_EXISTENT)),
+            Target::Alternate(_) => heard.code(Err(access_errors::OBJECT_ACCESS_UNSUPPORTED)),
         }
     }
 

@@ -17,6 +17,7 @@ use Rattle.bay_model.specs.Retained.{front}
 use Rattle.bay_model.specs.Blocks.{enabler, is_held, entry_id}
 use Rattle.bay_model.specs.Reservations.{is_reserved_for_another}
 use Rattle.bay_model.specs.Outcomes.{Outcome, first_code}
+use Rattle.bay_model.specs.declared.access_errors.TheConstants.{TEMPORARILY_UNAVAILABLE, OBJECT_ACCESS_DENIED, TYPE_INCONSISTENT, OBJECT_ATTRIBUTE_INCONSISTENT, OBJECT_VALUE_INVALID}
 
 -- ConfRev, SqNum, TimeofEntry and Owner refuse every write
 abbrev pub is_written : Comp → Bool
@@ -53,8 +54,9 @@ names_nothing front newest known _ v = false
 -- one; foreign says that it is reserved for another address, nothing that the value names nothing.
 abbrev pub component_refusals : {H : Type 0} → (H → Bool) → Bool → Comp → Value → Bool → Option H → Parameters → List (Bool × ℕ)
 component_refusals mine foreign comp v nothing enabler parameters =
-    (not (is_kind (comp_kind comp) v), 7) ∷ (not (is_written comp), 3) ∷ (foreign || is_held mine comp v enabler, 2) ∷ (contradicts comp v parameters, 8)
-    ∷ (not (is_in_range (comp_kind comp) v) || nothing, 11) ∷ []
+    (not (is_kind (comp_kind comp) v), TYPE_INCONSISTENT) ∷ (not (is_written comp), OBJECT_ACCESS_DENIED)
+    ∷ (foreign || is_held mine comp v enabler, TEMPORARILY_UNAVAILABLE) ∷ (contradicts comp v parameters, OBJECT_ATTRIBUTE_INCONSISTENT)
+    ∷ (not (is_in_range (comp_kind comp) v) || nothing, OBJECT_VALUE_INVALID) ∷ []
 
 -- the value that is written to a component of block b names nothing
 abbrev pub is_of_nothing : Model → ℕ → Comp → Value → Past → Bool

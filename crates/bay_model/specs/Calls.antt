@@ -9,6 +9,8 @@ use Rattle.bay_model.specs.Points.{Past}
 use Rattle.bay_model.specs.Commands.{Command, command_of, is_command, differs}
 use Rattle.bay_model.specs.Controls.{execution, is_blocked}
 use Rattle.bay_model.specs.Selections.{standing, Selection}
+use Rattle.sv_base.specs.declared.ctl_models.TheConstants.{STATUS_ONLY, SBO_NORMAL, SBO_ENHANCED}
+use Rattle.bay_model.specs.declared.add_causes.TheConstants.{NOT_SUPPORTED, BLOCKED_BY_PROCESS, COMMAND_ALREADY_IN_EXECUTION, OBJECT_NOT_SELECTED, OBJECT_ALREADY_SELECTED, INCONSISTENT_PARAMETERS, LOCKED_BY_OTHER_CLIENT}
 
 -- a selection is a's, and another's
 abbrev pub is_by : ℕ → Option Selection → Bool
@@ -28,22 +30,20 @@ first_cause (t ∷ ts) = if t.0 then Some t.1 else first_cause ts
 
 -- ctlModel is SBO control, with normal or enhanced security
 abbrev pub is_selectable : Model → ℕ → Bool
-is_selectable c k = ((control_of c k).model == 2) || ((control_of c k).model == 4)
+is_selectable c k = ((control_of c k).model == SBO_NORMAL) || ((control_of c k).model == SBO_ENHANCED)
 
--- The AddCauses of a call of control k by a, in order, each with its test: 1 not-supported, 9 blocked-by-process, 12
--- command-already-in-execution, 18 object-not-selected, 19 object-already-selected, 26 inconsistent-parameters, 27
--- locked-by-other-client.
+-- the AddCauses of a call of control k by a, in order, each with its test
 abbrev pub causes : Model → ℕ → Call → ℕ → Option Command → Past → List (Bool × ℕ)
-causes c k select a m past = (is_some (execution c k past), 12) ∷ (is_some (standing c k past), 19) ∷ (is_blocked k past, 9) ∷ []
+causes c k select a m past = (is_some (execution c k past), COMMAND_ALREADY_IN_EXECUTION) ∷ (is_some (standing c k past), OBJECT_ALREADY_SELECTED) ∷ (is_blocked k past, BLOCKED_BY_PROCESS) ∷ []
 causes c k operate a m past =
-    ((control_of c k).model == 0, 1) ∷ (is_some (execution c k past), 12)
-    ∷ (is_selectable c k && is_by_another a (standing c k past), 27) ∷ (is_selectable c k && not (is_by a (standing c k past)), 18)
-    ∷ (((control_of c k).model == 4) && is_other_command m (standing c k past), 26) ∷ (is_blocked k past, 9) ∷ []
+    ((control_of c k).model == STATUS_ONLY, NOT_SUPPORTED) ∷ (is_some (execution c k past), COMMAND_ALREADY_IN_EXECUTION)
+    ∷ (is_selectable c k && is_by_another a (standing c k past), LOCKED_BY_OTHER_CLIENT) ∷ (is_selectable c k && not (is_by a (standing c k past)), OBJECT_NOT_SELECTED)
+    ∷ (((control_of c k).model == SBO_ENHANCED) && is_other_command m (standing c k past), INCONSISTENT_PARAMETERS) ∷ (is_blocked k past, BLOCKED_BY_PROCESS) ∷ []
 causes c k cancel a m past =
-    (is_some (execution c k past), 12) ∷ (is_by_another a (standing c k past), 27) ∷ (not (is_by a (standing c k past)), 18)
-    ∷ (((control_of c k).model == 4) && is_other_command m (standing c k past), 26) ∷ []
+    (is_some (execution c k past), COMMAND_ALREADY_IN_EXECUTION) ∷ (is_by_another a (standing c k past), LOCKED_BY_OTHER_CLIENT) ∷ (not (is_by a (standing c k past)), OBJECT_NOT_SELECTED)
+    ∷ (((control_of c k).model == SBO_ENHANCED) && is_other_command m (standing c k past), INCONSISTENT_PARAMETERS) ∷ []
 
--- what comes of a call: it is accepted, or refused for its value (7), or with an AddCause
+-- what comes of a call: it is accepted, or refused for its value, or with an AddCause
 pub data Went : Type 0 where
   accepted : Went
   mistyped : Went

@@ -7,6 +7,7 @@ use Rattle.bay_model.specs.Model.{Model, operate}
 use Rattle.bay_model.specs.Lookups.{control_of}
 use Rattle.bay_model.specs.Points.{Deed, lost, finished, blocked, called, terminated, Past}
 use Rattle.bay_model.specs.Commands.{is_test}
+use Rattle.sv_base.specs.declared.ctl_models.TheConstants.{DIRECT_ENHANCED, SBO_ENHANCED}
 
 abbrev pub blocked_after : ℕ → Deed → Bool → Bool
 blocked_after k (blocked j flag) was = if j == k then flag else was
@@ -32,7 +33,7 @@ pub record Execution : Type 0 where
 
 -- ctlModel is direct or SBO control with enhanced security
 abbrev pub is_enhanced : Model → ℕ → Bool
-is_enhanced c k = ((control_of c k).model == 3) || ((control_of c k).model == 4)
+is_enhanced c k = ((control_of c k).model == DIRECT_ENHANCED) || ((control_of c k).model == SBO_ENHANCED)
 
 -- an execution at a Done of its control, and at the loss of its association
 abbrev pub ends_by_done : Execution → Phase → Option Execution

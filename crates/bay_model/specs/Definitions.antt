@@ -13,6 +13,7 @@ use Rattle.bay_model.specs.Lookups.{node_of}
 use Rattle.bay_model.specs.Points.{Past, Change, unchanged, defined}
 use Rattle.bay_model.specs.Sets.{sets, dynamic, set_named}
 use Rattle.bay_model.specs.Breaks.{is_empty}
+use Rattle.bay_model.specs.declared.service_errors.TheConstants.{DEFINITION, RESOURCE, ACCESS, OBJECT_EXISTS, RESOURCE_OTHER, OBJECT_NON_EXISTENT}
 
 abbrev pub is_letter : ℕ → Bool
 is_letter o = (nat_le 65 o && nat_le o 90) || (nat_le 97 o && nat_le o 122)
@@ -45,9 +46,9 @@ number_of _ = 0
 -- 256 members, or 64 dynamic sets already.
 abbrev pub definition_error : Model → Past → SetName → List Target → Option (ℕ × ℕ)
 definition_error c past n members =
-    if is_some (set_named n (sets c past)) then Some (2, 5)
-    else (if not (is_set_name c n) || is_empty members || not (list_all (is_member c) members) then Some (7, 2)
-    else (if nat_lt 256 (length members) || nat_le 64 (length (dynamic past)) then Some (3, 0) else None))
+    if is_some (set_named n (sets c past)) then Some (DEFINITION, OBJECT_EXISTS)
+    else (if not (is_set_name c n) || is_empty members || not (list_all (is_member c) members) then Some (ACCESS, OBJECT_NON_EXISTENT)
+    else (if nat_lt 256 (length members) || nat_le 64 (length (dynamic past)) then Some (RESOURCE, RESOURCE_OTHER) else None))
 
 abbrev pub definition_reply : Model → Past → SetName → List Target → Reply
 definition_reply c past n members = option_map_or (λ e. replies.Error e.0 e.1) (definition_error c past n members) replies.Defined

@@ -9,6 +9,7 @@ use Rattle.bay_model.specs.Lookups.{reference_of}
 use Rattle.bay_model.specs.Points.{Past, Change, unchanged, deleted}
 use Rattle.bay_model.specs.Parameters.{parameters_at}
 use Rattle.bay_model.specs.Sets.{sets, set_named, without}
+use Rattle.bay_model.specs.declared.service_errors.TheConstants.{ACCESS, OBJECT_ACCESS_DENIED}
 
 -- the DatSet of a block, from number b on, names the set
 abbrev pub in_use_from : Model → Past → List ℕ → ℕ → List Block → Bool
@@ -33,7 +34,7 @@ matched c past (n ∷ ns) all = (if is_some (set_named n all) then 1 else 0)
     + matched c past ns (if is_some (set_named n all) && is_deletable c past n then without n all else all)
 
 abbrev pub deletion_reply : Model → Past → ℕ → List SetName → Reply
-deletion_reply c past scope names = if scope == 0 then replies.Deleted (matched c past names (sets c past)) (length (gone c past names (sets c past))) else replies.Error 7 3
+deletion_reply c past scope names = if scope == 0 then replies.Deleted (matched c past names (sets c past)) (length (gone c past names (sets c past))) else replies.Error ACCESS OBJECT_ACCESS_DENIED
 
 -- what comes of the data sets
 abbrev pub deletion_change : Model → Past → ℕ → List SetName → Change

@@ -16,6 +16,7 @@ use Rattle.sv_base.specs.declared.ctl_services.CtlService.TheVariants as service
 use Rattle.sv_base.specs.CtlServices.{service_name}
 use Rattle.sv_base.specs.CallParts.{cancel_parts, command_parts, part_name, part_type}
 use Rattle.sv_base.specs.ComponentTable.{components, comp_name, setting_components, setting_comp_name, comp_type, setting_comp_type}
+use Rattle.sv_base.specs.declared.ctl_models.TheConstants.{SBO_NORMAL, SBO_ENHANCED}
 
 -- an item that is named, what it is, and its type where it has no parts
 pub record Named : Type 0 where
@@ -57,16 +58,17 @@ parts_of_call _ = command_parts
 abbrev pub command_names : ℕ → TypeOf → List ℕ → Call → List Named
 command_names k kind item call = structure_named item (calling k call) ∷ map (part_named kind item) (parts_of_call call)
 
--- models 2 and 4 select before they operate
+-- SBO control, with normal or enhanced security, selects before it operates
 abbrev pub is_selected : CtlDef → Bool
-is_selected k = (k.model == 2) || (k.model == 4)
+is_selected k = (k.model == SBO_NORMAL) || (k.model == SBO_ENHANCED)
 
--- what control k has at `LN$CO$DO`: model 2 SBO, model 4 SBOw, each Oper, models 2 and 4 Cancel
+-- what control k has at `LN$CO$DO`: SBO control with normal security has SBO, with enhanced security SBOw, either Cancel, and
+-- each control Oper
 abbrev pub sbo_names : ℕ → CtlDef → List ℕ → List Named
-sbo_names k c item = if c.model == 2 then record { item = within item (service_name services.Sbo); role = selecting k; kind = types.Text 129 } ∷ [] else []
+sbo_names k c item = if c.model == SBO_NORMAL then record { item = within item (service_name services.Sbo); role = selecting k; kind = types.Text 129 } ∷ [] else []
 
 abbrev pub sbow_names : ℕ → CtlDef → List ℕ → List Named
-sbow_names k c item = if c.model == 4 then command_names k c.kind (within item (service_name services.SboWithValue)) select else []
+sbow_names k c item = if c.model == SBO_ENHANCED then command_names k c.kind (within item (service_name services.SboWithValue)) select else []
 
 abbrev pub oper_names : ℕ → CtlDef → List ℕ → List Named
 oper_names k c item = command_names k c.kind (within item (service_name services.Oper)) operate

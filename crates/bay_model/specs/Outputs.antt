@@ -14,6 +14,7 @@ use Rattle.bay_model.specs.Points.{Past}
 use Rattle.bay_model.specs.Controls.{Execution, execution}
 use Rattle.bay_model.specs.Commands.{Command, command_of}
 use Rattle.bay_model.specs.Waiting.{Waiting, reply, ending}
+use Rattle.bay_model.specs.declared.add_causes.TheConstants.{TIME_LIMIT_OVER}
 
 -- the end of the name of the variable that is written
 abbrev pub name_of_call : Call → List ℕ
@@ -33,11 +34,11 @@ error_of c k call v cause = option_map_or (λ (m : Command). record {
 }) (command_of v) no_command
 
 -- the output that is given for one that waits; past ends with the moment of the Take. A negative termination has the
--- AddCause 16, time-limit-over.
+-- AddCause time-limit-over.
 abbrev pub output_of : Model → Past → Waiting → Output
 output_of c past (reply output) = output
 output_of c past (ending k good) = outputs.Termination (record {
   control = record { 0 = k };
   oper = option_map_or (λ (e : Execution). e.oper) (execution c k past) kinds.Other;
-  error = if good then None else option_map (λ (e : Execution). error_of c k operate e.oper 16) (execution c k past);
+  error = if good then None else option_map (λ (e : Execution). error_of c k operate e.oper TIME_LIMIT_OVER) (execution c k past);
 })

@@ -13,18 +13,19 @@ use Rattle.bay_model.specs.Values.{value_at}
 use Rattle.bay_model.specs.Calls.{can_select}
 use Rattle.bay_model.specs.Outcomes.{Outcome, gave, refused}
 use Rattle.bay_model.specs.Components.{read_component, read_setting}
+use Rattle.bay_model.specs.declared.access_errors.TheConstants.{TEMPORARILY_UNAVAILABLE, OBJECT_ACCESS_DENIED}
 
--- under SE the edit copy, for every association, or code 2 where nobody holds the edit; else the value
+-- under SE the edit copy, for every association, or temporarily-unavailable where nobody holds the edit; else the value
 abbrev pub read_attribute : Model → Access → ℕ → Past → Result Value ℕ
-read_attribute c model.edited x past = if is_some (edit (attr_of c x).domain past) then Ok (stored c (attr_of c x).original past copy) else Err 2
+read_attribute c model.edited x past = if is_some (edit (attr_of c x).domain past) then Ok (stored c (attr_of c x).original past copy) else Err TEMPORARILY_UNAVAILABLE
 read_attribute c _ x past = Ok (value_at c x past)
 
--- what stands under CO gives code 3
+-- what stands under CO gives object-access-denied
 abbrev pub read_leaf : Model → Past → Leaf → Result Value ℕ
 read_leaf c past (model.attribute x) = read_attribute c (attr_of c x).access x past
 read_leaf c past (model.component b comp) = Ok (read_component c b comp past)
 read_leaf c past (model.setting d part) = Ok (read_setting c d part past)
-read_leaf c past model.withheld = Err 3
+read_leaf c past model.withheld = Err OBJECT_ACCESS_DENIED
 
 abbrev pub structured : Result Row ℕ → Result Value ℕ
 structured (Ok r) = Ok (kinds.Struct r)

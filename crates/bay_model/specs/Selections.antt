@@ -5,6 +5,7 @@ use Rattle.bay_model.specs.Model.{Model, select, operate, cancel}
 use Rattle.bay_model.specs.Lookups.{control_of}
 use Rattle.bay_model.specs.Points.{Deed, lost, called, selected_control, Past, now}
 use Rattle.bay_model.specs.Commands.{Command, command_of}
+use Rattle.sv_base.specs.declared.ctl_models.TheConstants.{OPERATE_ONCE}
 
 -- who selected a control, from when on its time counts, and with which command (none by SBO)
 pub record Selection : Type 0 where
@@ -19,7 +20,7 @@ without_a a was = option_and_then (λ (s : Selection). if s.by == a then None el
 -- at an accepted Oper of a: under sboClass 0 (operate-once) a's selection ends, under 1 (operate-many) its time starts
 -- again
 abbrev pub operated : Model → ℕ → ℕ → ℕ → Option Selection → Option Selection
-operated c k a moment was = if (control_of c k).sbo_class == 0 then without_a a was
+operated c k a moment was = if (control_of c k).sbo_class == OPERATE_ONCE then without_a a was
     else option_and_then (λ (s : Selection). Some (if s.by == a then record s { since = moment } else s)) was
 
 abbrev pub selection_after : Model → ℕ → ℕ → Deed → Option Selection → Option Selection

@@ -23,6 +23,8 @@ use Rattle.bay_model.specs.Singles.{Single, reads, read_of, write_of, writes_of}
 use Rattle.bay_model.specs.Names.{names_reply}
 use Rattle.bay_model.specs.Definitions.{definition_reply, definition_change}
 use Rattle.bay_model.specs.Deletions.{deletion_reply, deletion_change}
+use Rattle.sv_base.specs.declared.rejections.TheConstants.{INVALID_ARGUMENT}
+use Rattle.bay_model.specs.declared.service_errors.TheConstants.{SERVICE, ACCESS, PDU_SIZE, OBJECT_NON_EXISTENT}
 
 abbrev pub set_found : Model → Past → SetName → Option DataSet
 set_found c past n = set_named n (sets c past)
@@ -45,29 +47,29 @@ singles_of c past _ = []
 -- GetVariableAccessAttributes
 abbrev pub type_reply : Target → Reply
 type_reply (targets.Node n name) = replies.TypeOfNode n
-type_reply _ = replies.Error 7 2
+type_reply _ = replies.Error ACCESS OBJECT_NON_EXISTENT
 
 abbrev pub node_number : ℕ → NodeId
 node_number n = record { 0 = n }
 
 -- GetNamedVariableListAttributes: a set that a client defined is deletable
 abbrev pub set_reply : Model → SetName → Option DataSet → Reply
-set_reply c n None = replies.Error 7 2
+set_reply c n None = replies.Error ACCESS OBJECT_NON_EXISTENT
 set_reply c n (Some s) = replies.SetOf (is_none (set_named n c.sets)) (map node_number s.nodes)
 
 -- the results of a read, with the specification where it is to be written back; values and codes that are longer than a PDU
--- are refused by the error of class 4, service, with code 3, pdu-size
+-- are refused by the error of class service with the code pdu-size
 abbrev pub read_reply : ℕ → Asked → List (Result Value ℕ) → Reply
-read_reply size spec results = if are_too_long size results then replies.Error 4 3 else replies.Read spec results
+read_reply size spec results = if are_too_long size results then replies.Error SERVICE PDU_SIZE else replies.Read spec results
 
 abbrev pub read_set_reply : ℕ → SetName → Bool → List Outcome → Option DataSet → Reply
-read_set_reply size n spec os None = replies.Error 7 2
+read_set_reply size n spec os None = replies.Error ACCESS OBJECT_NON_EXISTENT
 read_set_reply size n spec os (Some s) = read_reply size (if spec then asked.Set n else asked.No) (map result_of os)
 
 -- another count of values than members is refused as invalid arguments
 abbrev pub write_set_reply : Row → List Outcome → Option DataSet → Reply
-write_set_reply r os None = replies.Error 7 2
-write_set_reply r os (Some s) = if length s.nodes == length (values_of r) then replies.Wrote (map code_of os) else replies.Reject 3
+write_set_reply r os None = replies.Error ACCESS OBJECT_NON_EXISTENT
+write_set_reply r os (Some s) = if length s.nodes == length (values_of r) then replies.Wrote (map code_of os) else replies.Reject INVALID_ARGUMENT
 
 -- the reply to a service; past is what came before the request, size that of a PDU of its association, os what came of its
 -- single reads and writes

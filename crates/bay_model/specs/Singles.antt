@@ -15,9 +15,10 @@ use Rattle.bay_model.specs.Commands.{Command, command_of}
 use Rattle.bay_model.specs.Outcomes.{Outcome, refused, deed_of}
 use Rattle.bay_model.specs.Reads.{read_node}
 use Rattle.bay_model.specs.Writes.{write_node}
+use Rattle.bay_model.specs.declared.access_errors.TheConstants.{OBJECT_ACCESS_UNSUPPORTED, OBJECT_NON_EXISTENT}
 
--- a node that is read, one that is written, or the code of a name that can be neither: 10 where no such name is there, 9
--- where alternate access is asked for
+-- a node that is read, one that is written, or the code of a name that can be neither, since no such name is there, or
+-- alternate access is asked for
 pub data Single : Type 0 where
   reads : (n : ℕ) → Single
   writes : (n : ℕ) → Value → Single
@@ -25,13 +26,13 @@ pub data Single : Type 0 where
 
 abbrev pub read_of : Target → Single
 read_of (targets.Node n name) = reads n.0
-read_of (targets.Missing name) = fails 10
-read_of (targets.Alternate name) = fails 9
+read_of (targets.Missing name) = fails OBJECT_NON_EXISTENT
+read_of (targets.Alternate name) = fails OBJECT_ACCESS_UNSUPPORTED
 
 abbrev pub write_to : Target → Value → Single
 write_to (targets.Node n name) v = writes n.0 v
-write_to (targets.Missing name) v = fails 10
-write_to (targets.Alternate name) v = fails 9
+write_to (targets.Missing name) v = fails OBJECT_NON_EXISTENT
+write_to (targets.Alternate name) v = fails OBJECT_ACCESS_UNSUPPORTED
 
 abbrev pub write_of : Write → Single
 write_of w = write_to w.target w.value

@@ -20,6 +20,7 @@ use Rattle.assoc_table.specs.Standing.{waiting_of}
 use Rattle.control_core.specs.TerminationsWait.{endings}
 use Rattle.bay_queues.specs.Heard.{Heard, heard_with}
 use Rattle.bay_queues.specs.Queued.{Queued, ends_in}
+use Rattle.bay_model.specs.declared.access_errors.TheConstants.{TYPE_INCONSISTENT}
 
 -- the LastApplError of a call of control k, before its AddCause is known; none where its value isn't of the type
 abbrev pub blame_of : Control → Call → Value → Option ApplError
@@ -31,7 +32,7 @@ blame_in cs k call v = blame_of (slice_index_or cs k no_control) call v
 -- what a's call comes to, by what it is answered
 abbrev pub outcome_by : ℕ → ℕ → Call → Value → ControlState → Went → Outcome
 outcome_by a k call v s accepted = did (called a k call v)
-outcome_by a k call v s mistyped = refused 7
+outcome_by a k call v s mistyped = refused TYPE_INCONSISTENT
 outcome_by a k call v s (barred cause) = outcomes.barred (error_at s.config.reference call v cause)
 
 abbrev pub outcome_at : Table → ℕ → ℕ → Call → Value → Outcome

@@ -1,8 +1,9 @@
 //! What came of the single reads and writes of a request so far.
 
 ghost use Rattle.std.specs.Prelude.{◌≡◌, ◌≤◌, ◌<◌, ◌++◌, ◌∷◌, [], vec_len, vec_capacity};
+ghost use Rattle.bay_model.specs.declared.access_errors.TheConstants.{OBJECT_ACCESS_DENIED};
 
-use bay_model::{Act, ApplError};
+use bay_model::{Act, ApplError, access_errors};
 use std::alloc::{AllocError, Global};
 use std::marker::Model;
 use sv_base::CtlNo;
@@ -86,10 +87,10 @@ impl Heard {
     /// A command was refused with an error.
     pub(crate) fn barred(&mut self, error: ApplError)
         requires room { length self.old.codes < self.old.room }
-        ensures { self.new ≡ record self.old { codes = self.old.codes ++ Err 3 ∷ []; before = self.old.before ++ error ∷ [] } }
+        ensures { self.new ≡ record self.old { codes = self.old.codes ++ Err OBJECT_ACCESS_DENIED ∷ []; before = self.old.before ++ error ∷ [] } }
     {
         add(&mut self.before, error);
-        add(&mut self.answers, Err(3));
+        add(&mut self.answers, Err(access_errors::OBJECT_ACCESS_DENIED));
     }
 
     /// An Oper was accepted, and its control acts.

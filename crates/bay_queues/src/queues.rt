@@ -15,7 +15,7 @@ ghost use Rattle.bay_queues.specs.Heard.{heard_with};
 
 use crate::heard::Heard;
 use assoc_table::{Assocs, Ends, Waiting};
-use bay_model::{Act, ApplError, Output};
+use bay_model::{Act, ApplError, Output, access_errors};
 use control_core::{Controls, Went};
 use std::alloc::{AllocError, Global};
 use std::marker::Model;
@@ -356,7 +356,7 @@ impl Queues {
         ensures tests { AreTests self.old a.0 heard.old.tests → AreTests self.new a.0 heard.new.tests }
     {
         let Some(error) = blame else {
-            heard.code(Err(7));
+            heard.code(Err(access_errors::TYPE_INCONSISTENT));
             return;
         };
         if let Err(cause) = self.judge(a, c, call, value, heard) {

@@ -14,6 +14,7 @@ use Rattle.sv_base.specs.declared.value.Value.TheVariants as kinds
 use Rattle.bay_replies.specs.Given.{target_read}
 use Rattle.bay_replies.specs.declared.reads.Read.{Read}
 use Rattle.bay_replies.specs.declared.replies.Replies.{Replies}
+use Rattle.bay_model.specs.declared.access_errors.TheConstants.{OBJECT_ACCESS_DENIED}
 
 -- the node of a target is there
 abbrev pub IsTarget : Config → Target → Type 0
@@ -33,7 +34,7 @@ selecting_in c _ = None
 
 -- what a control's SBO gives where its read selects
 abbrev pub reference_read : Option CtlDef → Result Value ℕ
-reference_read None = Err 3
+reference_read None = Err OBJECT_ACCESS_DENIED
 reference_read (Some k) = Ok (kinds.Text (control_defined k).reference)
 
 -- a result before its turn, and how many octets it has at least: an SBO gives its reference, or the empty text later on

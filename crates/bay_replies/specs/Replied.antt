@@ -22,6 +22,8 @@ use Rattle.data_sets.specs.declared.book.DeleteFault.{DeleteFault}
 use Rattle.data_sets.specs.declared.book.DeleteFault.TheVariants as faults
 use Rattle.bay_replies.specs.declared.replies.Replies.{Replies}
 use Rattle.bay_replies.specs.Given.{node_read}
+use Rattle.bay_model.specs.declared.service_errors.TheConstants.{ACCESS, OBJECT_NON_EXISTENT}
+use Rattle.sv_base.specs.declared.rejections.TheConstants.{UNKNOWN_PDU}
 
 -- ---- names
 
@@ -39,7 +41,7 @@ scoped r class (scopes.Domain d) = if class == 0 then variables_of (configured_m
 scoped r class scopes.Assoc = []
 
 abbrev pub names_by : Replies → ℕ → ℕ → Scope → Option (List ℕ) → Reply
-names_by r size class scope after = if is_unknown (configured_model r.model.now) scope then replies.Error 7 2 else replies.Names (within size (listed after (scoped r class scope)))
+names_by r size class scope after = if is_unknown (configured_model r.model.now) scope then replies.Error ACCESS OBJECT_NON_EXISTENT else replies.Names (within size (listed after (scoped r class scope)))
 
 -- ---- data sets
 
@@ -48,14 +50,14 @@ is_fixed (Err faults.NotDeletable) = true
 is_fixed _ = false
 
 abbrev pub set_by : Replies → SetName → Option ℕ → Reply
-set_by r n None = replies.Error 7 2
+set_by r n None = replies.Error ACCESS OBJECT_NON_EXISTENT
 set_by r n (Some k) = replies.SetOf (not (is_fixed (deletion r.book.now n))) (set_at r.book.now k).nodes
 
 abbrev pub asked_set : Bool → SetName → Asked
 asked_set spec n = if spec then asked.Set n else asked.No
 
 abbrev pub read_set_by : Replies → ℕ → SetName → Bool → Option ℕ → Reply
-read_set_by r size n spec None = replies.Error 7 2
+read_set_by r size n spec None = replies.Error ACCESS OBJECT_NON_EXISTENT
 read_set_by r size n spec (Some k) = read_reply size (asked_set spec n) (map (λ (x : NodeId). node_read r x.0) (set_at r.book.now k).nodes)
 
 -- ---- the replies; a service that writes has none here
@@ -69,4 +71,4 @@ replied r size (services.TypeOfNode t) = type_reply t
 replied r size (services.ReadSet domain item spec) = read_set_by r size (set_name domain item) spec (number_named (set_name domain item) r.book.now)
 replied r size (services.SetOf domain item) = set_by r (set_name domain item) (number_named (set_name domain item) r.book.now)
 replied r size (services.Reject n) = replies.Reject n
-replied r size _ = replies.Reject 1
+replied r size _ = replies.Reject UNKNOWN_PDU

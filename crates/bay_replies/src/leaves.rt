@@ -6,7 +6,7 @@ ghost use Rattle.bay_replies.specs.Given.{component_read};
 
 use crate::owned;
 use crate::replies::Replies;
-use bay_model::Comp;
+use bay_model::{Comp, access_errors};
 use node_reads::LeafValues;
 use object_model::Leaf;
 use report_block::ReportBlock;
@@ -25,7 +25,7 @@ fn component_of(
 {
     match part {
         Some(part) => Ok(Ok(part.read(alloc, comp, was, now)?)),
-        None => Ok(Err(3)),
+        None => Ok(Err(access_errors::OBJECT_ACCESS_DENIED)),
     }
 }
 
@@ -40,7 +40,7 @@ impl<'a> Replies<'a> {
     {
         match self.groups.copy_at(place) {
             Some(slot) => Ok(Ok(owned(alloc, slot.get())?)),
-            None => Ok(Err(2)),
+            None => Ok(Err(access_errors::TEMPORARILY_UNAVAILABLE)),
         }
     }
 
@@ -56,7 +56,7 @@ impl<'a> Replies<'a> {
         if number < self.store.len() {
             Ok(Ok(owned(alloc, self.store.get(attr))?))
         } else {
-            Ok(Err(2))
+            Ok(Err(access_errors::TEMPORARILY_UNAVAILABLE))
         }
     }
 
@@ -89,7 +89,7 @@ impl<'a> LeafValues for Replies<'a> {
             Leaf::Attribute(attr) => self.attribute(alloc, attr),
             Leaf::Component(block, comp) => self.component(alloc, block, comp),
             Leaf::Setting(domain, part) => Ok(Ok(self.groups.read(domain, part))),
-            Leaf::Withheld => Ok(Err(3)),
+            Leaf::Withheld => Ok(Err(access_errors::OBJECT_ACCESS_DENIED)),
         }
     }
 }

@@ -8,7 +8,7 @@ ghost use Rattle.bay_replies.specs.Replied.{empty_if};
 
 use crate::names_within;
 use crate::replies::Replies;
-use bay_model::{Names, Reply, Scope};
+use bay_model::{Names, Reply, Scope, service_errors};
 use name_order::{in_order, names_after};
 use object_model::domains;
 use std::alloc::{AllocError, Global};
@@ -145,7 +145,10 @@ impl<'a> Replies<'a> {
         ensures { IfOk result (λ r. r ≡ names_by self.entry.now size class scope.now (option_copied after.entry)) }
     {
         if self.is_unknown(scope) {
-            return Ok(Reply::Error { class: 7, code: 2 });
+            return Ok(Reply::Error {
+                class: service_errors::ACCESS,
+                code: service_errors::OBJECT_NON_EXISTENT,
+            });
         }
         let names = self.names(alloc, class, scope, after)?;
         let held = names_within(size, names)?;

@@ -5,7 +5,7 @@ ghost use Rattle.bay_model.specs.Configured.{control_defined};
 
 use crate::replies::Replies;
 use crate::{left_behind, result_len};
-use bay_model::{Results, Target};
+use bay_model::{Results, Target, access_errors};
 use node_reads::read_node;
 use object_model::What;
 use std::alloc::{AllocError, Global};
@@ -65,20 +65,20 @@ impl<'a> Replies<'a> {
     {
         match self.model.config().controls.get(control as usize) {
             Some(line) => Ok(Ok(Value::Text(reference_of(alloc, line)?))),
-            None => Ok(Err(3)),
+            None => Ok(Err(access_errors::OBJECT_ACCESS_DENIED)),
         }
     }
 
-    /// A variable that is no SBO: its value, or the code of a name that no node has, 10, of one with alternate access, 9, or of the
-    /// node's refusal.
+    /// A variable that is no SBO: its value, or the code of a name that no node has, of one with alternate access, or of the node's
+    /// refusal.
     fn read_target(&self, alloc: Global, target: &Target) -> Result<Result<Value, u8>, AllocError>
         requires { IsTarget self.now.model.now target.now }
         ensures { IfOk result (λ r. r ≡ target_read self.entry.now target.now) }
     {
         match target {
             Target::Node(node, _) => read_node(alloc, self.model, self, *node),
-            Target::Missing(_) => Ok(Err(10)),
-            Target::Alternate(_) => Ok(Err(9)),
+            Target::Missing(_) => Ok(Err(access_errors::OBJECT_NON_EXISTENT)),
+            Target::Alternate(_) => Ok(Err(access_errors::OBJECT_ACCESS_UNSUPPORTED)),
         }
     }
 

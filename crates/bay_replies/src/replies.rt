@@ -5,13 +5,13 @@ ghost use Rattle.bay_model.specs.declared.reply.Asked.TheVariants as asked;
 ghost use Rattle.bay_model.specs.Services.{type_reply};
 
 use crate::copy_targets;
-use bay_model::{Asked, Reply, Service, Target, Targets};
+use bay_model::{Asked, Reply, Service, Target, Targets, service_errors};
 use data_sets::SetBook;
 use object_model::Model;
 use report_block::ReportBlock;
 use setting_groups::Groups;
 use std::alloc::{AllocError, Global};
-use sv_base::Moment;
+use sv_base::{Moment, rejections};
 use value_store::Store;
 
 /// What a bay lends to a reply: its model, its values, its setting groups, its report blocks and its data sets; its newest moment so
@@ -33,7 +33,10 @@ fn type_of(target: &Target) -> Reply
 {
     match target {
         Target::Node(node, _) => Reply::TypeOfNode(*node),
-        Target::Missing(_) | Target::Alternate(_) => Reply::Error { class: 7, code: 2 },
+        Target::Missing(_) | Target::Alternate(_) => Reply::Error {
+            class: service_errors::ACCESS,
+            code: service_errors::OBJECT_NON_EXISTENT,
+        },
     }
 }
 
@@ -79,14 +82,14 @@ impl<'a> Replies<'a> {
             | Service::WriteVars(_)
             | Service::WriteSet { .. }
             | Service::Define { .. }
-            | Service::Delete { .. } => Ok(Reply::Reject(1)),
+            | Service::Delete { .. } => Ok(Reply::Reject(rejections::UNKNOWN_PDU)),
         }
     }
 
     /// The reply to a request that reads and writes no variable (ISO 9506-2: Status, Identify, Conclude, GetNameList,
     /// GetVariableAccessAttributes, Read of a named variable list, GetNamedVariableListAttributes, and a Reject), for an association with
-    /// PDUs of this size in octets. Where values and codes alone are longer than that it is the error of class 4, service, with code 3,
-    /// pdu-size; a data set or a domain that isn't there gives that of class 7, access, with code 2, object-non-existent.
+    /// PDUs of this size in octets. Where values and codes alone are longer than that it is the error of class service with the code
+    /// pdu-size; a data set or a domain that isn't there gives that of class access with the code object-non-existent.
     pub fn reply(&self, alloc: Global, size: u32, service: &Service) -> Result<Reply, AllocError>
         requires served { IsServed self.now.model.now self.now.store.now self.now.groups.now self.now.blocks.now self.now.book.now }
         requires fits { IsFitting self.now.model.now service.now }

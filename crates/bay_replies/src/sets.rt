@@ -8,7 +8,7 @@ ghost use Rattle.bay_replies.specs.Replied.{asked_set as asked_of};
 
 use crate::replies::Replies;
 use crate::set_name;
-use bay_model::{Asked, Nodes, Reply, Results, SetName};
+use bay_model::{Asked, Nodes, Reply, Results, SetName, service_errors};
 use data_sets::DeleteFault;
 use std::alloc::{AllocError, Global};
 use sv_base::Octs;
@@ -20,14 +20,17 @@ fn asked_set(spec: bool, name: SetName) -> Asked
     if spec { Asked::Set(name) } else { Asked::No }
 }
 
-/// The reply to Read: the results with the specification, and the error of class 4, service, with code 3, pdu-size, where values and
+/// The reply to Read: the results with the specification, and the error of class service with the code pdu-size, where values and
 /// codes are longer than a PDU.
 pub(crate) fn read_reply(asked: Asked, results: Option<Results>) -> Reply
     ensures { (size : ℕ) (all : List (Result Value ℕ)) → results ≡ held_within size all → result ≡ read_reply_of size asked all }
 {
     match results {
         Some(results) => Reply::Read { asked, results },
-        None => Reply::Error { class: 4, code: 3 },
+        None => Reply::Error {
+            class: service_errors::SERVICE,
+            code: service_errors::PDU_SIZE,
+        },
     }
 }
 
@@ -62,7 +65,10 @@ impl<'a> Replies<'a> {
                 deletable: self.is_deletable(&name),
                 members: Nodes::from_vec(Vec::from_slice(alloc, self.book.nodes(number))?),
             }),
-            None => Ok(Reply::Error { class: 7, code: 2 }),
+            None => Ok(Reply::Error {
+                class: service_errors::ACCESS,
+                code: service_errors::OBJECT_NON_EXISTENT,
+            }),
         }
     }
 
@@ -85,7 +91,10 @@ impl<'a> Replies<'a> {
                 let results = self.read_nodes(alloc, size, self.book.nodes(number))?;
                 Ok(read_reply(asked_set(spec, name), results))
             }
-            None => Ok(Reply::Error { class: 7, code: 2 }),
+            None => Ok(Reply::Error {
+                class: service_errors::ACCESS,
+                code: service_errors::OBJECT_NON_EXISTENT,
+            }),
         }
     }
 }

@@ -30,6 +30,7 @@ use Rattle.bay_model.specs.declared.request.Request.{Request}
 use Rattle.bay_model.specs.declared.step.Step.TheVariants as steps
 use Rattle.object_model.specs.Fits.{is_association, fits}
 use Rattle.object_model.specs.Tables.{node_named, node_id}
+use Rattle.sv_base.specs.declared.rejections.TheConstants.{UNKNOWN_PDU, UNKNOWN_SERVICE, INVALID_ARGUMENT, INVALID_PDU}
 
 -- ---- names
 
@@ -109,10 +110,10 @@ rejected invoke number = Some (record { invoke = invoke; service = services.Reje
 -- The request that a refused PDU makes, to be rejected: by the invoke number, where the refusal is of a PDU that has one,
 -- and the number of the refusal. No PDU that is read as a request is refused for its size.
 abbrev pub rejection_of : PduFault → Option Request
-rejection_of faults.UnknownPdu = rejected 0 1
-rejection_of (faults.UnknownService invoke) = rejected invoke 2
-rejection_of (faults.Argument invoke) = rejected invoke 3
-rejection_of faults.Invalid = rejected 0 4
+rejection_of faults.UnknownPdu = rejected 0 UNKNOWN_PDU
+rejection_of (faults.UnknownService invoke) = rejected invoke UNKNOWN_SERVICE
+rejection_of (faults.Argument invoke) = rejected invoke INVALID_ARGUMENT
+rejection_of faults.Invalid = rejected 0 INVALID_PDU
 rejection_of (faults.SmallSize size) = None
 
 -- of what octets are read as

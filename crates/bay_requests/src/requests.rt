@@ -14,6 +14,7 @@ use bay_model::{Request, Service};
 use mms_pdu::{PduFault, RequestView, request};
 use object_model::Model;
 use std::alloc::{AllocError, Global};
+use sv_base::rejections;
 
 /// What a client asks; none where it asks nothing.
 fn asked_of(
@@ -67,10 +68,10 @@ pub fn to_rejection(fault: PduFault) -> Request
     ensures fits { (c : Config) → IsFitting c result }
 {
     let (invoke, number) = match fault {
-        PduFault::UnknownPdu => (0, 1),
-        PduFault::UnknownService(invoke) => (invoke, 2),
-        PduFault::Argument(invoke) => (invoke, 3),
-        PduFault::Invalid => (0, 4),
+        PduFault::UnknownPdu => (0, rejections::UNKNOWN_PDU),
+        PduFault::UnknownService(invoke) => (invoke, rejections::UNKNOWN_SERVICE),
+        PduFault::Argument(invoke) => (invoke, rejections::INVALID_ARGUMENT),
+        PduFault::Invalid => (0, rejections::INVALID_PDU),
         PduFault::SmallSize(_) => unreachable!(),
     };
     Request {

@@ -2,11 +2,13 @@
 
 ghost use Rattle.std.specs.Prelude.{◌≡◌, if◌then◌else◌};
 ghost use Rattle.brcb_state.specs.declared.told.Effect.TheVariants as effects;
+ghost use Rattle.bay_model.specs.declared.access_errors.TheConstants.{TEMPORARILY_UNAVAILABLE, TYPE_INCONSISTENT, OBJECT_VALUE_INVALID};
 
 use crate::block::Block;
 use crate::options::MOST;
 use crate::told::Effect;
-use crate::writes::{HELD, INVALID, MISTYPED, is_empty};
+use crate::writes::is_empty;
+use bay_model::access_errors;
 use sv_base::Value;
 
 /// What an accepted write brings about, where it is or isn't a change.
@@ -37,10 +39,10 @@ impl Block {
         ensures unchanged { OnErr result (self.new ≡ self.old) }
     {
         if foreign || self.enabler.is_some() {
-            return Err(HELD);
+            return Err(access_errors::TEMPORARILY_UNAVAILABLE);
         }
         if text.len() > MOST {
-            return Err(INVALID);
+            return Err(access_errors::OBJECT_VALUE_INVALID);
         }
         let differs = self.options.set_rpt_id(text);
         Ok(purging(differs))
@@ -53,7 +55,7 @@ impl Block {
     {
         match value {
             Value::Text(text) => self.set_rpt_id(foreign, text.as_slice()),
-            _ => Err(MISTYPED),
+            _ => Err(access_errors::TYPE_INCONSISTENT),
         }
     }
 
@@ -76,10 +78,10 @@ impl Block {
         ensures unchanged { OnErr result (self.new ≡ self.old) }
     {
         if foreign || self.enabler.is_some() {
-            return Err(HELD);
+            return Err(access_errors::TEMPORARILY_UNAVAILABLE);
         }
         if text.len() > MOST || !(is_empty(text) || known) {
-            return Err(INVALID);
+            return Err(access_errors::OBJECT_VALUE_INVALID);
         }
         let differs = self.options.set_dat_set(text);
         self.revision = self.revision_after(differs);
@@ -98,19 +100,20 @@ impl Block {
     {
         match value {
             Value::Text(text) => self.set_dat_set(foreign, text.as_slice(), known),
-            _ => Err(MISTYPED),
+            _ => Err(access_errors::TYPE_INCONSISTENT),
         }
     }
 
     /// Takes bits of this number, for a block that isn't held.
     fn take_bits(&self, foreign: bool, bits: &[bool], count: usize) -> Result<(), u8>
-        ensures { result ≡ (if not (length bits.now == count) then Err 7 else if foreign || is_some self.now.enabler then Err 2 else Ok tt) }
+        ensures { result ≡ (if not (length bits.now == count) then Err TYPE_INCONSISTENT
+            else if foreign || is_some self.now.enabler then Err TEMPORARILY_UNAVAILABLE else Ok tt) }
     {
         if bits.len() != count {
-            return Err(MISTYPED);
+            return Err(access_errors::TYPE_INCONSISTENT);
         }
         if foreign || self.enabler.is_some() {
-            return Err(HELD);
+            return Err(access_errors::TEMPORARILY_UNAVAILABLE);
         }
         Ok(())
     }
@@ -132,7 +135,7 @@ impl Block {
     {
         match value {
             Value::Bits(bits) => self.set_opt_flds(foreign, bits.as_slice()),
-            _ => Err(MISTYPED),
+            _ => Err(access_errors::TYPE_INCONSISTENT),
         }
     }
 
@@ -153,19 +156,20 @@ impl Block {
     {
         match value {
             Value::Bits(bits) => self.set_trg_ops(foreign, bits.as_slice()),
-            _ => Err(MISTYPED),
+            _ => Err(access_errors::TYPE_INCONSISTENT),
         }
     }
 
     /// A number of 32 bits, for a block that isn't held.
     fn number(&self, foreign: bool, n: u64) -> Result<u32, u8>
-        ensures { result ≡ (if foreign || is_some self.now.enabler then Err 2 else if nat_lt n (2 ^ 32) then Ok n else Err 11) }
+        ensures { result ≡ (if foreign || is_some self.now.enabler then Err TEMPORARILY_UNAVAILABLE
+            else if nat_lt n (2 ^ 32) then Ok n else Err OBJECT_VALUE_INVALID) }
     {
         if foreign || self.enabler.is_some() {
-            return Err(HELD);
+            return Err(access_errors::TEMPORARILY_UNAVAILABLE);
         }
         if n > u32::MAX as u64 {
-            return Err(INVALID);
+            return Err(access_errors::OBJECT_VALUE_INVALID);
         }
         Ok(n as u32)
     }
@@ -187,7 +191,7 @@ impl Block {
     {
         match value {
             Value::Uint(n) => self.set_buf_tm(foreign, *n),
-            _ => Err(MISTYPED),
+            _ => Err(access_errors::TYPE_INCONSISTENT),
         }
     }
 
@@ -208,7 +212,7 @@ impl Block {
     {
         match value {
             Value::Uint(n) => self.set_intg_pd(foreign, *n),
-            _ => Err(MISTYPED),
+            _ => Err(access_errors::TYPE_INCONSISTENT),
         }
     }
 }

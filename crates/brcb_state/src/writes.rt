@@ -7,23 +7,13 @@ ghost use Rattle.sv_base.specs.declared.value.Value.TheVariants as kinds;
 ghost use Rattle.bay_model.specs.Breaks.{is_empty as is_empty_list};
 ghost use Rattle.brcb_state.specs.declared.told.Effect.TheVariants as effects;
 ghost use Rattle.bay_model.specs.BlockWrites.{is_retained_or_zero};
+ghost use Rattle.bay_model.specs.declared.access_errors.TheConstants.{TEMPORARILY_UNAVAILABLE, OBJECT_ACCESS_DENIED, TYPE_INCONSISTENT, OBJECT_VALUE_INVALID};
 
 use crate::block::{Block, Holder, bit};
 use crate::reservation::Reserved;
 use crate::told::{Effect, Retained};
-use bay_model::Comp;
+use bay_model::{Comp, access_errors};
 use sv_base::{AssocNo, Moment, Owner, Value};
-
-/// The write is held.
-pub const HELD: u8 = 2;
-/// The component isn't writable.
-pub const READ_ONLY: u8 = 3;
-/// The value is of another type.
-pub const MISTYPED: u8 = 7;
-/// The value contradicts another component.
-pub const CONTRADICTING: u8 = 8;
-/// The value is out of its range, or names nothing.
-pub const INVALID: u8 = 11;
 
 pub fn is_empty(octets: &[u8]) -> bool
     ensures { result ≡ is_empty_list octets.now }
@@ -40,32 +30,32 @@ fn is_retained_or_zero(kept: Retained, n: u64) -> bool
 
 /// What a number that isn't writable refuses a value by.
 fn number_refusal(value: &Value) -> u8
-    ensures revision { result ≡ (if not (is_kind (uint 32) value.now) then 7 else 3) }
-    ensures count { result ≡ (if not (is_kind (uint 16) value.now) then 7 else 3) }
+    ensures revision { result ≡ (if not (is_kind (uint 32) value.now) then TYPE_INCONSISTENT else OBJECT_ACCESS_DENIED) }
+    ensures count { result ≡ (if not (is_kind (uint 16) value.now) then TYPE_INCONSISTENT else OBJECT_ACCESS_DENIED) }
 {
     match value {
-        Value::Uint(_) => READ_ONLY,
-        _ => MISTYPED,
+        Value::Uint(_) => access_errors::OBJECT_ACCESS_DENIED,
+        _ => access_errors::TYPE_INCONSISTENT,
     }
 }
 
 /// What a time that isn't writable refuses a value by.
 fn stamp_refusal(value: &Value) -> u8
-    ensures { result ≡ (if not (is_kind stamp value.now) then 7 else 3) }
+    ensures { result ≡ (if not (is_kind stamp value.now) then TYPE_INCONSISTENT else OBJECT_ACCESS_DENIED) }
 {
     match value {
-        Value::Stamp(_) => READ_ONLY,
-        _ => MISTYPED,
+        Value::Stamp(_) => access_errors::OBJECT_ACCESS_DENIED,
+        _ => access_errors::TYPE_INCONSISTENT,
     }
 }
 
 /// What an address that isn't writable refuses a value by.
 fn owner_refusal(value: &Value) -> u8
-    ensures { result ≡ (if not (is_kind (octets 64) value.now) then 7 else 3) }
+    ensures { result ≡ (if not (is_kind (octets 64) value.now) then TYPE_INCONSISTENT else OBJECT_ACCESS_DENIED) }
 {
     match value {
-        Value::Octets(_) => READ_ONLY,
-        _ => MISTYPED,
+        Value::Octets(_) => access_errors::OBJECT_ACCESS_DENIED,
+        _ => access_errors::TYPE_INCONSISTENT,
     }
 }
 
@@ -112,10 +102,10 @@ impl Block {
         ensures unchanged { OnErr result (self.new ≡ self.old) }
     {
         if foreign || self.is_enabled_by_another(a) {
-            return Err(HELD);
+            return Err(access_errors::TEMPORARILY_UNAVAILABLE);
         }
         if on && is_empty(self.options.dat_set()) {
-            return Err(CONTRADICTING);
+            return Err(access_errors::OBJECT_ATTRIBUTE_INCONSISTENT);
         }
         let effect = self.effect_of_enabling(on);
         self.count = self.count_after(on);
@@ -143,7 +133,7 @@ impl Block {
     {
         match value {
             Value::Bool(on) => self.enable(a, owner, foreign, *on),
-            _ => Err(MISTYPED),
+            _ => Err(access_errors::TYPE_INCONSISTENT),
         }
     }
 
@@ -155,16 +145,16 @@ impl Block {
     }
 
     fn resume(&mut self, foreign: bool, n: u64, kept: Retained) -> Result<Effect, u8>
-        ensures answer { result ≡ (if foreign || is_some self.old.enabler then Err 2 else
-            (if is_retained_or_zero kept.front kept.len n then Ok effects.Nothing else Err 11)) }
+        ensures answer { result ≡ (if foreign || is_some self.old.enabler then Err TEMPORARILY_UNAVAILABLE else
+            (if is_retained_or_zero kept.front kept.len n then Ok effects.Nothing else Err OBJECT_VALUE_INVALID)) }
         ensures written { OnOk result (self.new ≡ record self.old { cursor = if n == 0 then min self.old.cursor kept.front else n }) }
         ensures unchanged { OnErr result (self.new ≡ self.old) }
     {
         if foreign || self.enabler.is_some() {
-            return Err(HELD);
+            return Err(access_errors::TEMPORARILY_UNAVAILABLE);
         }
         if !is_retained_or_zero(kept, n) {
-            return Err(INVALID);
+            return Err(access_errors::OBJECT_VALUE_INVALID);
         }
         self.cursor = self.resumed(n, kept.front);
         Ok(Effect::Nothing)
@@ -184,7 +174,7 @@ impl Block {
     {
         match octets.as_array::<8>() {
             Some(id) => self.resume(foreign, u64::from_be_bytes(*id), kept),
-            None => Err(MISTYPED),
+            None => Err(access_errors::TYPE_INCONSISTENT),
         }
     }
 
@@ -201,7 +191,7 @@ impl Block {
     {
         match value {
             Value::Octets(octets) => self.resume_at(a, foreign, octets.as_slice(), kept),
-            _ => Err(MISTYPED),
+            _ => Err(access_errors::TYPE_INCONSISTENT),
         }
     }
 
@@ -209,7 +199,7 @@ impl Block {
         ensures { result ≡ answer_to anyone foreign comps.PurgeBuf (kinds.Bool on) false self.now }
     {
         if foreign || self.enabler.is_some() {
-            return Err(HELD);
+            return Err(access_errors::TEMPORARILY_UNAVAILABLE);
         }
         if on {
             Ok(Effect::Purge)
@@ -223,7 +213,7 @@ impl Block {
     {
         match value {
             Value::Bool(on) => self.purge(foreign, *on),
-            _ => Err(MISTYPED),
+            _ => Err(access_errors::TYPE_INCONSISTENT),
         }
     }
 
@@ -232,16 +222,16 @@ impl Block {
     {
         if !on {
             return if foreign || self.is_enabled_by_another(a) {
-                Err(HELD)
+                Err(access_errors::TEMPORARILY_UNAVAILABLE)
             } else {
                 Ok(Effect::Nothing)
             };
         }
         if foreign || !self.is_enabled_by(a) {
-            return Err(HELD);
+            return Err(access_errors::TEMPORARILY_UNAVAILABLE);
         }
         if !bit(5, self.options.trg_ops()) {
-            return Err(CONTRADICTING);
+            return Err(access_errors::OBJECT_ATTRIBUTE_INCONSISTENT);
         }
         Ok(Effect::General)
     }
@@ -251,7 +241,7 @@ impl Block {
     {
         match value {
             Value::Bool(on) => self.interrogate(a, foreign, *on),
-            _ => Err(MISTYPED),
+            _ => Err(access_errors::TYPE_INCONSISTENT),
         }
     }
 
@@ -260,13 +250,13 @@ impl Block {
         ensures { result ≡ answer_to a foreign comps.ResvTms value.now (model.names_nothing 0 0 false comps.ResvTms value.now) self.now }
     {
         let Value::Int(seconds) = value else {
-            return Err(MISTYPED);
+            return Err(access_errors::TYPE_INCONSISTENT);
         };
         if foreign || self.is_enabled_by_another(a) {
-            return Err(HELD);
+            return Err(access_errors::TEMPORARILY_UNAVAILABLE);
         }
         if *seconds < 0 || *seconds > 32767 {
-            return Err(INVALID);
+            return Err(access_errors::OBJECT_VALUE_INVALID);
         }
         Ok(Effect::Nothing)
     }

@@ -26,6 +26,7 @@ use Rattle.cfg_grammar.specs.Grammar.{Spells}
 use Rattle.cfg_lines.specs.declared.line.Line.{Line}
 use Rattle.cfg_lines.specs.declared.line.Line.TheVariants as lines
 use Rattle.cfg_lines.specs.declared.line.Place.TheVariants as places
+use Rattle.sv_base.specs.declared.ctl_models.TheConstants.{SBO_NORMAL, SBO_ENHANCED}
 
 -- in a logical node, but not behind a `set` without a member
 abbrev pub IsInNode : List Line → Type 0
@@ -109,7 +110,7 @@ pub record IsBlock (before : List Line) (block : BlockDef) : Type 0 where
 
 -- the longest name that a control has below its path
 abbrev pub longest_part : ℕ → List ℕ
-longest_part model = if model == 2 then codes "Cancel$origin$orIdent" else if model == 4 then codes "Cancel$origin$orIdent" else codes "Oper$origin$orIdent"
+longest_part model = if model == SBO_NORMAL then codes "Cancel$origin$orIdent" else if model == SBO_ENHANCED then codes "Cancel$origin$orIdent" else codes "Oper$origin$orIdent"
 
 pub record IsControl (before : List Line) (control : CtlDef) : Type 0 where
   pub here : control ≡ record control { line = number_of before; domain = domain_of before; ln = node_of before }

@@ -7,6 +7,7 @@ use Rattle.sv_base.specs.CtlServices.{service_name}
 use Rattle.cfg_lines.specs.Paths.{below, node_key, item_key}
 use Rattle.cfg_lines.specs.declared.line.Line.{Line}
 use Rattle.cfg_lines.specs.declared.line.Line.TheVariants as lines
+use Rattle.sv_base.specs.declared.ctl_models.TheConstants.{SBO_NORMAL, SBO_ENHANCED}
 
 -- domains and logical nodes, by their references
 abbrev pub heads_by : Line → List (List ℕ)
@@ -30,16 +31,16 @@ abbrev pub sets : List Line → List (List ℕ)
 sets [] = []
 sets (line ∷ before) = sets_by line ++ sets before
 
--- What a control has under CO and under CF by its model (IEC 61850-8-1, control services): 2 and 4 are those with a
--- selection, by SBO or by SBOw.
+-- What a control has under CO and under CF by its model (IEC 61850-8-1, control services): SBO control has a selection, by
+-- SBO or by SBOw.
 abbrev pub operations : ℕ → List (List ℕ)
-operations model = if model == 2 then service_name services.Oper ∷ service_name services.Sbo ∷ service_name services.Cancel ∷ []
-    else if model == 4 then service_name services.Oper ∷ service_name services.SboWithValue ∷ service_name services.Cancel ∷ []
+operations model = if model == SBO_NORMAL then service_name services.Oper ∷ service_name services.Sbo ∷ service_name services.Cancel ∷ []
+    else if model == SBO_ENHANCED then service_name services.Oper ∷ service_name services.SboWithValue ∷ service_name services.Cancel ∷ []
     else service_name services.Oper ∷ []
 
 abbrev pub settings : ℕ → List (List ℕ)
-settings model = if model == 2 then parameter_name CtlModel ∷ parameter_name SboTimeout ∷ parameter_name SboClass ∷ []
-    else if model == 4 then parameter_name CtlModel ∷ parameter_name SboTimeout ∷ parameter_name SboClass ∷ []
+settings model = if model == SBO_NORMAL then parameter_name CtlModel ∷ parameter_name SboTimeout ∷ parameter_name SboClass ∷ []
+    else if model == SBO_ENHANCED then parameter_name CtlModel ∷ parameter_name SboTimeout ∷ parameter_name SboClass ∷ []
     else parameter_name CtlModel ∷ []
 
 abbrev pub control_keys : List ℕ → List ℕ → List ℕ → ℕ → List (List ℕ)

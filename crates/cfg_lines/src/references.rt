@@ -9,7 +9,7 @@ ghost use Rattle.cfg_lines.specs.Paths.{below as below_front, node_key as node_k
 ghost use Rattle.cfg_lines.specs.Claims.{operations, settings, control_keys as control_keys_of, group_key as group_key_of};
 
 use std::alloc::{AllocError, Global};
-use sv_base::{CtlParameter, CtlService};
+use sv_base::{CtlParameter, CtlService, ctl_models};
 
 /// Adds a name below what a room holds.
 fn extend_below(room: &mut Vec<u8>, name: &[u8]) -> Result<(), AllocError>
@@ -144,11 +144,11 @@ fn push_operations(
     ensures { OnOk result (map octets_of keys.new.items ≡ map octets_of keys.old.items ++ map (λ part. below_front front.now part) (operations model)) }
 {
     push_service(alloc, keys, front, CtlService::Oper)?;
-    if model == 2 {
+    if model == u32::from(ctl_models::SBO_NORMAL) {
         push_service(alloc, keys, front, CtlService::Sbo)?;
         return push_service(alloc, keys, front, CtlService::Cancel);
     }
-    if model == 4 {
+    if model == u32::from(ctl_models::SBO_ENHANCED) {
         push_service(alloc, keys, front, CtlService::SboWithValue)?;
         return push_service(alloc, keys, front, CtlService::Cancel);
     }
@@ -186,10 +186,10 @@ fn push_settings(
     ensures { OnOk result (map octets_of keys.new.items ≡ map octets_of keys.old.items ++ map (λ part. below_front front.now part) (settings model)) }
 {
     push_parameter(alloc, keys, front, CtlParameter::CtlModel)?;
-    if model == 2 {
+    if model == u32::from(ctl_models::SBO_NORMAL) {
         return push_selection(alloc, keys, front);
     }
-    if model == 4 {
+    if model == u32::from(ctl_models::SBO_ENHANCED) {
         return push_selection(alloc, keys, front);
     }
     Ok(())

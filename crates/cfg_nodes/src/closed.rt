@@ -11,7 +11,9 @@ ghost use Rattle.cfg_lines.specs.Nodes.{closed as closed_before};
 
 use cfg_lines::{Line, below, group_key, item_key};
 use std::alloc::{AllocError, Global};
-use sv_base::{AttrDef, BlockDef, CallPart, Comp, CtlDef, CtlService, Octs, SettingComp, SgDef};
+use sv_base::{
+    AttrDef, BlockDef, CallPart, Comp, CtlDef, CtlService, Octs, SettingComp, SgDef, ctl_models,
+};
 
 fn push_below(
     alloc: Global,
@@ -103,10 +105,10 @@ fn push_operations(
     ensures { OnOk result (names.new.items ≡ names.old.items ++ operations_below front.now (operations model)) }
 {
     push_operation(alloc, names, front, CtlService::Oper, &CallPart::ALL)?;
-    if model == 2 {
+    if model == ctl_models::SBO_NORMAL {
         return push_selection(alloc, names, front, CtlService::Sbo, &[]);
     }
-    if model == 4 {
+    if model == ctl_models::SBO_ENHANCED {
         return push_selection(
             alloc,
             names,

@@ -15,7 +15,7 @@ use crate::leaf_list::Leaves;
 use crate::spot::Spot;
 use cfg_lines::{Line, below, item_key, put_item_key};
 use std::alloc::{AllocError, Global};
-use sv_base::{AttrDef, CtlDef, CtlParameter, TypeOf};
+use sv_base::{AttrDef, CtlDef, CtlParameter, TypeOf, ctl_models};
 
 /// The octets of Data with so many octets of content.
 pub fn element_octets(content: u32) -> u32
@@ -130,10 +130,10 @@ fn push_settings(
     ensures { OnOk result (leaves.new ≡ leaves.old ++ wanted asked.now (map (setting_leaf front.now) (settings model))) }
 {
     push_setting(alloc, leaves, asked, front, CtlParameter::CtlModel)?;
-    if model == 2 {
+    if model == ctl_models::SBO_NORMAL {
         return push_selection(alloc, leaves, asked, front);
     }
-    if model == 4 {
+    if model == ctl_models::SBO_ENHANCED {
         return push_selection(alloc, leaves, asked, front);
     }
     Ok(())

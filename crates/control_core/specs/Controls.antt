@@ -11,6 +11,8 @@ use Rattle.bay_model.specs.Commands.{Command, command_of, is_command, is_test}
 use Rattle.bay_model.specs.Selections.{Selection, without_a}
 use Rattle.bay_model.specs.Controls.{Execution, Phase, underway, ended, orphaned, ends_by_done, ends_by_loss}
 use Rattle.bay_model.specs.Calls.{Went, mistyped, went_by, first_cause, is_by, is_by_another, is_other_command}
+use Rattle.sv_base.specs.declared.ctl_models.TheConstants.{STATUS_ONLY, SBO_NORMAL, DIRECT_ENHANCED, SBO_ENHANCED, OPERATE_ONCE}
+use Rattle.bay_model.specs.declared.add_causes.TheConstants.{NOT_SUPPORTED, BLOCKED_BY_PROCESS, COMMAND_ALREADY_IN_EXECUTION, TIME_LIMIT_OVER, OBJECT_NOT_SELECTED, OBJECT_ALREADY_SELECTED, INCONSISTENT_PARAMETERS, LOCKED_BY_OTHER_CLIENT}
 
 -- how a control is configured, who has selected it, what runs, and whether it is blocked
 pub record ControlState : Type 0 where
@@ -31,21 +33,21 @@ abbrev pub standing_at : ℕ → ControlState → Option Selection
 standing_at now s = lasting now s.config.timeout s.selection
 
 abbrev pub is_selectable : ControlState → Bool
-is_selectable s = (s.config.model == 2) || (s.config.model == 4)
+is_selectable s = (s.config.model == SBO_NORMAL) || (s.config.model == SBO_ENHANCED)
 
 abbrev pub is_enhanced : ControlState → Bool
-is_enhanced s = (s.config.model == 3) || (s.config.model == 4)
+is_enhanced s = (s.config.model == DIRECT_ENHANCED) || (s.config.model == SBO_ENHANCED)
 
 -- the AddCauses of a call, in order, each with its test
 abbrev pub causes_at : ℕ → Call → ℕ → Option Command → ControlState → List (Bool × ℕ)
-causes_at now select a m s = (is_some s.execution, 12) ∷ (is_some (standing_at now s), 19) ∷ (s.is_blocked, 9) ∷ []
+causes_at now select a m s = (is_some s.execution, COMMAND_ALREADY_IN_EXECUTION) ∷ (is_some (standing_at now s), OBJECT_ALREADY_SELECTED) ∷ (s.is_blocked, BLOCKED_BY_PROCESS) ∷ []
 causes_at now operate a m s =
-    (s.config.model == 0, 1) ∷ (is_some s.execution, 12)
-    ∷ (is_selectable s && is_by_another a (standing_at now s), 27) ∷ (is_selectable s && not (is_by a (standing_at now s)), 18)
-    ∷ ((s.config.model == 4) && is_other_command m (standing_at now s), 26) ∷ (s.is_blocked, 9) ∷ []
+    (s.config.model == STATUS_ONLY, NOT_SUPPORTED) ∷ (is_some s.execution, COMMAND_ALREADY_IN_EXECUTION)
+    ∷ (is_selectable s && is_by_another a (standing_at now s), LOCKED_BY_OTHER_CLIENT) ∷ (is_selectable s && not (is_by a (standing_at now s)), OBJECT_NOT_SELECTED)
+    ∷ ((s.config.model == SBO_ENHANCED) && is_other_command m (standing_at now s), INCONSISTENT_PARAMETERS) ∷ (s.is_blocked, BLOCKED_BY_PROCESS) ∷ []
 causes_at now cancel a m s =
-    (is_some s.execution, 12) ∷ (is_by_another a (standing_at now s), 27) ∷ (not (is_by a (standing_at now s)), 18)
-    ∷ ((s.config.model == 4) && is_other_command m (standing_at now s), 26) ∷ []
+    (is_some s.execution, COMMAND_ALREADY_IN_EXECUTION) ∷ (is_by_another a (standing_at now s), LOCKED_BY_OTHER_CLIENT) ∷ (not (is_by a (standing_at now s)), OBJECT_NOT_SELECTED)
+    ∷ ((s.config.model == SBO_ENHANCED) && is_other_command m (standing_at now s), INCONSISTENT_PARAMETERS) ∷ []
 
 -- what a call comes to
 abbrev pub went_at : ℕ → Call → ℕ → Value → ControlState → Went
@@ -73,7 +75,7 @@ begun a v = record { by = a; oper = v; phase = if is_test v then ended else unde
 -- it is operated
 abbrev pub operated_by : ℕ → ℕ → Value → ControlState → ControlState
 operated_by now a v s = record s {
-  selection = if s.config.sbo_class == 0 then without_a a s.selection else renewed a now s.selection;
+  selection = if s.config.sbo_class == OPERATE_ONCE then without_a a s.selection else renewed a now s.selection;
   execution = if is_enhanced s then Some (begun a v) else s.execution;
 }
 
@@ -125,5 +127,5 @@ abbrev pub terminations : CtlNo → Bool → ControlState → Option Termination
 terminations k good s = option_map (λ (e : Execution). record {
   control = k;
   oper = e.oper;
-  error = if good then None else Some (error_at s.config.reference operate e.oper 16);
+  error = if good then None else Some (error_at s.config.reference operate e.oper TIME_LIMIT_OVER);
 }) s.execution

@@ -5,18 +5,16 @@ ghost use Rattle.sv_base.specs.Kinds.{kind_of as kind_in_model};
 ghost use Rattle.bay_model.specs.Configured.{control_defined};
 ghost use Rattle.control_core.specs.Commands.{kind_in};
 ghost use Rattle.control_core.specs.Opening.{IsCtlKind};
+ghost use Rattle.sv_base.specs.declared.ctl_models.TheConstants.{OPERATE_ONCE};
 
 use crate::command::{CommandRef, CtlKind, read};
 use crate::executed::Executed;
 use crate::kept_command::error_of;
 use crate::selected::Selected;
-use bay_model::{ApplError, Termination};
+use bay_model::{ApplError, Termination, add_causes};
 use std::alloc::{AllocError, Global};
 use std::marker::Model;
-use sv_base::{AssocNo, Call, CtlDef, CtlNo, Moment, Octs, TypeOf, Value};
-
-/// The AddCause time-limit-over (IEC 61850-7-2), which a negative CommandTermination carries.
-const TIME_LIMIT_OVER: u8 = 16;
+use sv_base::{AssocNo, Call, CtlDef, CtlNo, Moment, Octs, TypeOf, Value, ctl_models};
 
 /// What an accepted command of a control does (IEC 61850-7-2, the control class model).
 #[derive(Clone, Copy, Debug, PartialEq, Eq)]
@@ -130,25 +128,25 @@ impl Control {
     fn is_selectable(&self) -> bool
         ensures { result ≡ is_selectable_in self.now }
     {
-        self.model == 2 || self.model == 4
+        self.model == ctl_models::SBO_NORMAL || self.model == ctl_models::SBO_ENHANCED
     }
 
     /// Direct or SBO control with enhanced security.
     fn is_enhanced(&self) -> bool
         ensures { result ≡ is_enhanced_in self.now }
     {
-        self.model == 3 || self.model == 4
+        self.model == ctl_models::DIRECT_ENHANCED || self.model == ctl_models::SBO_ENHANCED
     }
 
     fn cause_of_select(&self, now: Moment) -> Option<u8>
         ensures { result ≡ first_cause (causes_at now select_call 0 None self.now) }
     {
         if self.executed.is_running() {
-            Some(12)
+            Some(add_causes::COMMAND_ALREADY_IN_EXECUTION)
         } else if self.selected.is_standing(now, self.timeout) {
-            Some(19)
+            Some(add_causes::OBJECT_ALREADY_SELECTED)
         } else if self.is_blocked {
-            Some(9)
+            Some(add_causes::BLOCKED_BY_PROCESS)
         } else {
             None
         }
@@ -157,18 +155,20 @@ impl Control {
     fn cause_of_operate(&self, now: Moment, a: AssocNo, command: &CommandRef<'_>) -> Option<u8>
         ensures { result ≡ first_cause (causes_at now operate_call a.0 (Some (command_said (said command.now))) self.now) }
     {
-        if self.model == 0 {
-            Some(1)
+        if self.model == ctl_models::STATUS_ONLY {
+            Some(add_causes::NOT_SUPPORTED)
         } else if self.executed.is_running() {
-            Some(12)
+            Some(add_causes::COMMAND_ALREADY_IN_EXECUTION)
         } else if self.is_selectable() && self.selected.is_by_another(now, self.timeout, a) {
-            Some(27)
+            Some(add_causes::LOCKED_BY_OTHER_CLIENT)
         } else if self.is_selectable() && !self.selected.is_by(now, self.timeout, a) {
-            Some(18)
-        } else if self.model == 4 && self.selected.is_other(now, self.timeout, command) {
-            Some(26)
+            Some(add_causes::OBJECT_NOT_SELECTED)
+        } else if self.model == ctl_models::SBO_ENHANCED
+            && self.selected.is_other(now, self.timeout, command)
+        {
+            Some(add_causes::INCONSISTENT_PARAMETERS)
         } else if self.is_blocked {
-            Some(9)
+            Some(add_causes::BLOCKED_BY_PROCESS)
         } else {
             None
         }
@@ -178,13 +178,15 @@ impl Control {
         ensures { result ≡ first_cause (causes_at now cancel_call a.0 (Some (command_said (said command.now))) self.now) }
     {
         if self.executed.is_running() {
-            Some(12)
+            Some(add_causes::COMMAND_ALREADY_IN_EXECUTION)
         } else if self.selected.is_by_another(now, self.timeout, a) {
-            Some(27)
+            Some(add_causes::LOCKED_BY_OTHER_CLIENT)
         } else if !self.selected.is_by(now, self.timeout, a) {
-            Some(18)
-        } else if self.model == 4 && self.selected.is_other(now, self.timeout, command) {
-            Some(26)
+            Some(add_causes::OBJECT_NOT_SELECTED)
+        } else if self.model == ctl_models::SBO_ENHANCED
+            && self.selected.is_other(now, self.timeout, command)
+        {
+            Some(add_causes::INCONSISTENT_PARAMETERS)
         } else {
             None
         }
@@ -268,11 +270,11 @@ impl Control {
     /// The selection after an accepted Oper.
     fn use_selection(&mut self, now: Moment, a: AssocNo)
         ensures { self.new ≡ record self.old {
-          selection = if self.old.config.sbo_class == 0 then without_a a.0 self.old.selection
+          selection = if self.old.config.sbo_class == OPERATE_ONCE then without_a a.0 self.old.selection
               else renewed a.0 now self.old.selection;
         } }
     {
-        if self.class == 0 {
+        if self.class == ctl_models::OPERATE_ONCE {
             self.selected.end(a);
         } else {
             self.selected.renew(now, a);
@@ -426,8 +428,11 @@ impl Control {
             None
         } else {
             Some(
-                self.executed
-                    .error(alloc, self.reference.as_slice(), TIME_LIMIT_OVER)?,
+                self.executed.error(
+                    alloc,
+                    self.reference.as_slice(),
+                    add_causes::TIME_LIMIT_OVER,
+                )?,
             )
         };
         Ok(Termination {

@@ -11,12 +11,13 @@ use Rattle.data_sets.specs.declared.book.DefineFault.TheVariants as define
 use Rattle.data_sets.specs.declared.book.DeleteFault.{DeleteFault}
 use Rattle.data_sets.specs.declared.book.DeleteFault.TheVariants as delete
 use Rattle.data_sets.specs.Books.{Book, deletion, after_delete, row_of}
+use Rattle.bay_model.specs.declared.service_errors.TheConstants.{DEFINITION, RESOURCE, ACCESS, OBJECT_EXISTS, RESOURCE_OTHER, OBJECT_NON_EXISTENT}
 
 -- the error of a refused definition, by class and code
 abbrev pub error_of : DefineFault → ℕ × ℕ
-error_of define.Exists = (2, 5)
-error_of define.NoSuchMember = (7, 2)
-error_of define.Full = (3, 0)
+error_of define.Exists = (DEFINITION, OBJECT_EXISTS)
+error_of define.NoSuchMember = (ACCESS, OBJECT_NON_EXISTENT)
+error_of define.Full = (RESOURCE, RESOURCE_OTHER)
 
 -- the rows have the nodes' right to be members
 abbrev pub AreRows : Model → List NodeRow → Type 0

@@ -98,7 +98,8 @@ pub reason_bounds : (refusal : ℕ) → (129 ≤ reason_tag refusal) × (reason_
 reason_bounds refusal = cond_both (eqb refusal 2 || eqb refusal 3) 129 133 (λ t. (129 ≤ t) × (t ≤ 133)) (λ e. (omega arith, omega arith)) (λ e. (omega arith, omega arith))
 
 pub code_bound : (refusal : ℕ) → reason_code refusal < 256
-code_bound refusal = cond_both (eqb refusal 1) 0 (cond (eqb refusal 3) 4 1) (λ t. t < 256) (λ e. omega arith) (λ e. cond_both (eqb refusal 3) 4 1 (λ t. t < 256) (λ d. omega arith) (λ d. omega arith))
+code_bound refusal = cond_both (eqb refusal 1) 0 (cond (eqb refusal 3) 4 (cond (eqb refusal 2) 1 1)) (λ t. t < 256) (λ e. omega arith)
+    (λ e. cond_both (eqb refusal 3) 4 (cond (eqb refusal 2) 1 1) (λ t. t < 256) (λ d. omega arith) (λ d. cond_both (eqb refusal 2) 1 1 (λ t. t < 256) (λ f. omega arith) (λ f. omega arith)))
 
 abbrev reason_octets : ℕ → List ℕ
 reason_octets refusal = octets_of (reason_tag refusal) (uint_octets (reason_code refusal))

@@ -17,6 +17,7 @@ mod object_name;
 mod read_back;
 mod reading;
 mod reject;
+pub mod reject_reasons;
 mod reply_view;
 mod report;
 mod service;

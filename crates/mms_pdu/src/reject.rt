@@ -1,13 +1,14 @@
 //! A reject, written (ISO 9506-2, RejectPDU).
 
 ghost use Rattle.std.specs.Prelude.{◌≡◌, ◌++◌, IfOk, OnOk};
-ghost use Rattle.ber_write.specs.Minimal.{octets_of, uint_octets};
+ghost use Rattle.ber_write.specs.Minimal.{octets_of, uint_octets, CanBeTag};
 ghost use Rattle.mms_pdu.specs.ReplyOctets.{invoke_octets, reason_tag, reason_code, reject_octets, CanBeRejected};
 
+use crate::reject_reasons;
 use ber_write::{enclosed, put_uint};
 use mms_elements::tags;
 use std::alloc::{AllocError, Global};
-use sv_base::Octs;
+use sv_base::{Octs, rejections};
 
 fn put_invoke(out: &mut Vec<u8>, invoke: Option<u32>) -> Result<(), AllocError>
     ensures { OnOk result (out.new.items ≡ out.old.items ++ invoke_octets invoke) }
@@ -18,20 +19,39 @@ fn put_invoke(out: &mut Vec<u8>, invoke: Option<u32>) -> Result<(), AllocError>
     }
 }
 
+fn put_code(out: &mut Vec<u8>, tag: u32, code: u8) -> Result<(), AllocError>
+    requires { CanBeTag tag }
+    ensures { OnOk result (out.new.items ≡ out.old.items ++ octets_of tag (uint_octets code)) }
+{
+    put_uint(out, tag, u64::from(code))
+}
+
 /// Adds the reason that stands for a refusal.
 fn put_reason(out: &mut Vec<u8>, refusal: u8) -> Result<(), AllocError>
     ensures { OnOk result (out.new.items ≡ out.old.items ++ octets_of (reason_tag refusal) (uint_octets (reason_code refusal))) }
 {
     match refusal {
-        1 => put_uint(out, tags::PDU_REJECTED, 0),
-        2 => put_uint(out, tags::REQUEST_REJECTED, 1),
-        3 => put_uint(out, tags::REQUEST_REJECTED, 4),
-        _ => put_uint(out, tags::PDU_REJECTED, 1),
+        rejections::UNKNOWN_PDU => put_code(
+            out,
+            tags::PDU_REJECTED,
+            reject_reasons::UNKNOWN_PDU_TYPE,
+        ),
+        rejections::UNKNOWN_SERVICE => put_code(
+            out,
+            tags::REQUEST_REJECTED,
+            reject_reasons::UNRECOGNIZED_SERVICE,
+        ),
+        rejections::INVALID_ARGUMENT => put_code(
+            out,
+            tags::REQUEST_REJECTED,
+            reject_reasons::INVALID_ARGUMENT,
+        ),
+        _ => put_code(out, tags::PDU_REJECTED, reject_reasons::INVALID_PDU),
     }
 }
 
-/// A reject (ISO 9506-2, RejectPDU, tag A4) for a refusal by its number: 1 unknown-pdu-type, 2 unrecognized-service,
-/// 3 invalid-argument, 4 invalid-pdu. The invoke number is that of the request, for 2 and 3; the others have none.
+/// A reject (ISO 9506-2, RejectPDU, tag A4) for a refusal by its number ([`sv_base::rejections`]). The invoke number is
+/// that of the request, for an unknown service and for an argument; the others have none.
 #[tactic(auto, unfolding(crate::specs::ReplyOctets::reject_octets))]
 pub fn write_reject(alloc: Global, invoke: Option<u32>, refusal: u8) -> Result<Octs, AllocError>
     requires { CanBeRejected invoke refusal }

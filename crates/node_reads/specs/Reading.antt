@@ -13,6 +13,7 @@ use Rattle.bay_model.specs.Reads.{structured, joined}
 use Rattle.name_leaves.specs.Leaves.{leaf_seen}
 use Rattle.name_leaves.specs.declared.leaves.Leaf.{Leaf as CodeLeaf}
 use Rattle.value_store.specs.Members.{value_with}
+use Rattle.bay_model.specs.declared.access_errors.TheConstants.{OBJECT_ACCESS_DENIED}
 
 -- a tree, by what each of its leaves reads as
 abbrev mutual
@@ -24,9 +25,9 @@ abbrev mutual
   read_side f model.none = Ok none
   read_side f (model.more t ts) = joined (read_by f t) (read_side f ts)
 
--- what stands under CO is never read: code 3
+-- what stands under CO is never read: object-access-denied
 abbrev pub leaf_read : (Leaf → Result Value ℕ) → Leaf → Result Value ℕ
-leaf_read given model.withheld = Err 3
+leaf_read given model.withheld = Err OBJECT_ACCESS_DENIED
 leaf_read given l = given l
 
 -- the same of a leaf as the code has it

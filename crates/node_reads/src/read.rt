@@ -10,6 +10,7 @@ ghost use Rattle.node_reads.specs.Reading.{read_by, leaf_read, leaf_at, all_or_f
 ghost use Rattle.node_reads.specs.Queues.{queued};
 
 use crate::build::build;
+use bay_model::access_errors;
 use object_model::{Leaf, Model};
 use std::alloc::{AllocError, Global};
 use std::collections::VecDeque;
@@ -34,7 +35,7 @@ fn leaf_value<V: LeafValues>(
     ensures { IfOk result (λ r. r ≡ leaf_at (V.given values.now) leaf) }
 {
     match leaf {
-        Leaf::Withheld => Ok(Err(3)),
+        Leaf::Withheld => Ok(Err(access_errors::OBJECT_ACCESS_DENIED)),
         _ => values.value_of(alloc, leaf),
     }
 }

@@ -12,7 +12,7 @@ use bay_model::{Comp, SettingComp};
 use name_leaves::{What, is_selected, joined, plus};
 use std::alloc::{AllocError, Global};
 use std::marker::Model;
-use sv_base::{Call, CallPart, CtlDef, CtlParameter, CtlService, Octs, Parts, TypeOf};
+use sv_base::{Call, CallPart, CtlDef, CtlParameter, CtlService, Octs, Parts, TypeOf, ctl_models};
 
 #[derive(Drop)]
 enum ItemOctets<'a> {
@@ -224,7 +224,7 @@ fn push_command(
     }
 }
 
-/// Adds SBO of a control of ctlModel 2, at `LN$CO$DO`.
+/// Adds SBO of a control with SBO and normal security, at `LN$CO$DO`.
 fn push_sbo(
     alloc: Global,
     out: &mut Vec<Named<'_>>,
@@ -234,7 +234,7 @@ fn push_sbo(
 ) -> Result<(), AllocError>
     ensures { OnOk result (out.new.items ≡ out.old.items ++ sbo_names number control.now item.now) }
 {
-    if control.model == 2 {
+    if control.model == ctl_models::SBO_NORMAL {
         push_within(
             alloc,
             out,
@@ -262,7 +262,7 @@ fn push_call(
     push_command(alloc, out, number, &control.kind, &item, call)
 }
 
-/// Adds SBOw of a control of ctlModel 4, at `LN$CO$DO`.
+/// Adds SBOw of a control with SBO and enhanced security, at `LN$CO$DO`.
 fn push_sbow(
     alloc: Global,
     out: &mut Vec<Named<'_>>,
@@ -272,7 +272,7 @@ fn push_sbow(
 ) -> Result<(), AllocError>
     ensures { OnOk result (out.new.items ≡ out.old.items ++ sbow_names number control.now item.now) }
 {
-    if control.model == 4 {
+    if control.model == ctl_models::SBO_ENHANCED {
         push_call(alloc, out, number, control, item, Call::Select)?;
     }
     Ok(())

@@ -4,6 +4,7 @@ use Rattle.ber_grammar.specs.Place.{Spot, Piece, content_piece}
 use Rattle.session_pres.specs.declared.codes.TheConstants.{INTEGER, OBJECT_IDENTIFIER, SEQUENCE}
 use Rattle.ber_grammar.specs.Fields.{AreFields}
 use Rattle.session_pres.specs.UserData.{IsContext}
+use Rattle.sv_base.specs.declared.object_ids.TheConstants.{BER, ACSE, MMS}
 
 -- a context: its number, its abstract syntax, and whether BER is one of its transfer syntaxes
 pub record Context : Type 0 where
@@ -14,13 +15,13 @@ pub record Context : Type 0 where
 -- The contents of three OBJECT IDENTIFIERs: the basic encoding rules of BER (ITU-T X.690, 12.2), the abstract syntaxes of
 -- ACSE (ISO 8650-1) and of MMS (ISO 9506-2).
 abbrev pub ber : List ℕ
-ber = 0x51 ∷ 0x01 ∷ []
+ber = BER
 
 abbrev pub acse : List ℕ
-acse = 0x52 ∷ 0x01 ∷ 0x00 ∷ 0x01 ∷ []
+acse = ACSE
 
 abbrev pub mms : List ℕ
-mms = 0x28 ∷ 0xca ∷ 0x22 ∷ 0x02 ∷ 0x01 ∷ []
+mms = MMS
 
 -- one of them is the OBJECT IDENTIFIER of BER
 abbrev pub HasBer : List Spot → Type 0

@@ -13,6 +13,7 @@ use crate::codes::{INTEGER, OBJECT_IDENTIFIER, SEQUENCE};
 use crate::pdv::context_of;
 use ber_view::{Elements, Tlv, fields};
 use std::marker::Model;
+use sv_base::object_ids;
 
 /// Which contexts of a client's definition list are accepted, in its order, seen as the list of these truth values.
 #[derive(Debug, Drop)]
@@ -44,7 +45,7 @@ fn lists_ber(mut syntaxes: Elements<'_>) -> bool
     ensures { result ≡ has_ber syntaxes.entry }
 {
     while let Some(syntax) = syntaxes.next() {
-        if syntax.tag == OBJECT_IDENTIFIER && syntax.content == [0x51, 1].as_slice() {
+        if syntax.tag == OBJECT_IDENTIFIER && syntax.content == object_ids::BER.as_slice() {
             return true;
         }
     }
@@ -123,8 +124,8 @@ pub fn offer_of(content: &[u8]) -> Option<Offer<'_>>
     let mut mms = None;
     while let Some(element) = elements.next() {
         let definition = definition_of(&element)?;
-        acse = earlier(&[0x52, 1, 0, 1], acse, (count, definition));
-        mms = earlier(&[0x28, 0xca, 0x22, 2, 1], mms, (count, definition));
+        acse = earlier(&object_ids::ACSE, acse, (count, definition));
+        mms = earlier(&object_ids::MMS, mms, (count, definition));
         count += 1;
     }
     Some(Offer { count, acse, mms })

@@ -21,6 +21,7 @@ use crate::fault::SpFault;
 use crate::pdv::pdv_list_of;
 use crate::spdu::connect_data_of;
 use ber_view::{Elements, Tlv, fields, first_of, first_with, only_with};
+use sv_base::object_ids;
 
 /// What a CP says.
 #[derive(Debug, Drop)]
@@ -129,7 +130,10 @@ fn is_accepted(result_of: Option<Tlv<'_>>) -> bool
     };
     element.tag == SEQUENCE
         && has_octets(first_with(element.content, RESULT), &[0])
-        && has_octets(first_with(element.content, TRANSFER_SYNTAX), &[0x51, 1])
+        && has_octets(
+            first_with(element.content, TRANSFER_SYNTAX),
+            &object_ids::BER,
+        )
 }
 
 /// The APDU of a CPA that accepts both contexts.

@@ -11,6 +11,7 @@ use Rattle.bay_model.specs.Outcomes.{first_of}
 use Rattle.bay_model.specs.Settings.{Edit, is_held_by}
 use Rattle.bay_model.specs.SettingWrites.{act_refusals, edit_refusals, confirm_refusals, attribute_refusals}
 use Rattle.setting_groups.specs.declared.domain.Edit as declared
+use Rattle.bay_model.specs.declared.access_errors.TheConstants.{TYPE_INCONSISTENT}
 
 -- a domain's block: how many groups, the active one, who edits which, and when the active one was chosen
 pub record Domained : Type 0 where
@@ -65,14 +66,14 @@ is_on _ = false
 
 abbrev pub act_answer : Domained → Value → Result (Unit {0}) ℕ
 act_answer d (kinds.Uint n) = first_of (act_refusals d.count n) tt
-act_answer d _ = Err 7
+act_answer d _ = Err TYPE_INCONSISTENT
 
 abbrev pub activated : ℕ → ℕ → Domained → Domained
 activated n now d = record d { active = n; last = Some now }
 
 abbrev pub edit_answer : ℕ → Domained → Value → Result (Unit {0}) ℕ
 edit_answer a d (kinds.Uint n) = first_of (edit_refusals a d.count n d.edit) tt
-edit_answer a d _ = Err 7
+edit_answer a d _ = Err TYPE_INCONSISTENT
 
 abbrev pub edited : ℕ → ℕ → Domained → Domained
 edited a n d = record d { edit = if n == 0 then None else Some (record { holder = a; group = n }) }
@@ -80,12 +81,12 @@ edited a n d = record d { edit = if n == 0 then None else Some (record { holder 
 -- whether CnfEdit confirms
 abbrev pub confirm_answer : ℕ → Domained → Value → Result Bool ℕ
 confirm_answer a d (kinds.Bool on) = first_of (confirm_refusals a d.edit) on
-confirm_answer a d _ = Err 7
+confirm_answer a d _ = Err TYPE_INCONSISTENT
 
 -- whether it does, and of the active group
 abbrev pub stored_answer : ℕ → Domained → Value → Result Bool ℕ
 stored_answer a d (kinds.Bool on) = first_of (confirm_refusals a d.edit) (on && (edit_number d == d.active))
-stored_answer a d _ = Err 7
+stored_answer a d _ = Err TYPE_INCONSISTENT
 
 abbrev pub unedited : Domained → Domained
 unedited d = record d { edit = None }

@@ -11,6 +11,7 @@ use Rattle.bay_model.specs.ComponentTable.{setting_comp_kind}
 use Rattle.bay_model.specs.Components.{utc_of, no_utc}
 use Rattle.bay_model.specs.Points.{Deed, activated, edited, confirmed, nothing}
 use Rattle.setting_groups.specs.Grouped.{Domained, Grouped, act_answer, edit_answer, edit_number, stored_answer, number_in, is_on, after_act, after_edit, after_confirm}
+use Rattle.bay_model.specs.declared.access_errors.TheConstants.{OBJECT_ACCESS_DENIED, TYPE_INCONSISTENT}
 
 -- what a component reads
 abbrev pub part_read : Domained → SettingComp → Value
@@ -29,7 +30,7 @@ abbrev pub part_answer : ℕ → Domained → SettingComp → Value → Result B
 part_answer a d ActSG v = told true (act_answer d v)
 part_answer a d EditSG v = told false (edit_answer a d v)
 part_answer a d CnfEdit v = stored_answer a d v
-part_answer a d part v = Err (if is_kind (setting_comp_kind part) v then 3 else 7)
+part_answer a d part v = Err (if is_kind (setting_comp_kind part) v then OBJECT_ACCESS_DENIED else TYPE_INCONSISTENT)
 
 -- what it makes of the groups
 abbrev pub after_part : ℕ → ℕ → SettingComp → Value → ℕ → Grouped → Grouped

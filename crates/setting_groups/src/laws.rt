@@ -29,6 +29,7 @@ ghost use Rattle.setting_groups.specs.Parts.{after_part, part_answer, part_deed,
 ghost use Rattle.setting_groups.specs.Grouped.{Grouped, domain_at, setting_at, act_answer, edit_answer, copy_answer, stored_answer, number_in, edit_number};
 ghost use Rattle.setting_groups.specs.Grouped.{is_on, holds, active_place, after_act, after_edit, after_copy, after_confirm, after_loss, after_values};
 ghost use Rattle.setting_groups.specs.Standing.{Stands, IsQuiet, IsTwin, at};
+ghost use Rattle.bay_model.specs.declared.access_errors.TheConstants.{TEMPORARILY_UNAVAILABLE};
 
 /// Setting groups that are opened stand for the empty history. Where they stand for what was before a point, they stand for its
 /// arrival; then, after what came of it, for the point: after a client's accepted write of ActSG, of EditSG, into the copy or of
@@ -72,7 +73,8 @@ pub fn reads_are_shown()
         → (slice_index_or (setting_at s k).groups (active_place (domain_at s (setting_at s k).domain)) (setting_at s k).copy).value
         ≡ stored c (setting_at s k).attr past (group (active c (attr_of c (setting_at s k).attr).domain past)) }
     ensures copy { (c : Model) (s : Grouped) (k y : ℕ) (past : Past) → Stands s c past → k < length s.settings → IsTwin c y (setting_at s k)
-        → read_attribute c model.edited y past ≡ (if is_some (domain_at s (setting_at s k).domain).edit then Ok (setting_at s k).copy.value else Err 2) }
+        → read_attribute c model.edited y past ≡ (if is_some (domain_at s (setting_at s k).domain).edit then Ok (setting_at s k).copy.value
+        else Err TEMPORARILY_UNAVAILABLE) }
     ensures count { (c : Model) (s : Grouped) (d : ℕ) (past : Past) → Stands s c past → d < length s.domains → 1 ≤ (groups_of c d).count
         → read_setting c d NumOfSG past ≡ kinds.Uint (domain_at s d).count }
     ensures act { (c : Model) (s : Grouped) (d : ℕ) (past : Past) → Stands s c past → d < length s.domains → 1 ≤ (groups_of c d).count

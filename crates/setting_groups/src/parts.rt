@@ -5,10 +5,11 @@ ghost use Rattle.std.specs.Option.{option_map_or};
 ghost use Rattle.bay_model.specs.ComponentTable.{setting_comp_kind};
 ghost use Rattle.bay_model.specs.Components.{utc_of as utc_at, no_utc};
 ghost use Rattle.sv_base.specs.Kinds.{is_kind};
+ghost use Rattle.bay_model.specs.declared.access_errors.TheConstants.{OBJECT_ACCESS_DENIED, TYPE_INCONSISTENT};
 
 use crate::domain::Domain;
 use crate::groups::Groups;
-use bay_model::SettingComp;
+use bay_model::{SettingComp, access_errors};
 use bay_rooms::Slot;
 use sv_base::{AssocNo, Moment, Utc, Value};
 
@@ -40,13 +41,15 @@ fn time_of(moment: Option<Moment>) -> Utc
 
 /// Why a component that clients don't write refuses a value.
 fn refusal(part: SettingComp, value: &Value) -> u8
-    ensures { result ≡ (if is_kind (setting_comp_kind part) value.now then 3 else 7) }
+    ensures { result ≡ (if is_kind (setting_comp_kind part) value.now then OBJECT_ACCESS_DENIED else TYPE_INCONSISTENT) }
 {
     match (part, value) {
-        (SettingComp::NumOfSG | SettingComp::ActSG | SettingComp::EditSG, Value::Uint(_)) => 3,
-        (SettingComp::CnfEdit, Value::Bool(_)) => 3,
-        (SettingComp::LActTm, Value::Time(_)) => 3,
-        _ => 7,
+        (SettingComp::NumOfSG | SettingComp::ActSG | SettingComp::EditSG, Value::Uint(_)) => {
+            access_errors::OBJECT_ACCESS_DENIED
+        }
+        (SettingComp::CnfEdit, Value::Bool(_)) => access_errors::OBJECT_ACCESS_DENIED,
+        (SettingComp::LActTm, Value::Time(_)) => access_errors::OBJECT_ACCESS_DENIED,
+        _ => access_errors::TYPE_INCONSISTENT,
     }
 }
 

@@ -1,5 +1,6 @@
 //! The values of an SG attribute: one for each group, and the edit copy.
 
+use bay_model::access_errors;
 use bay_rooms::{Misfit, Slot};
 use std::marker::Model;
 use sv_base::{AttrId, Value};
@@ -91,12 +92,16 @@ impl Setting {
         ensures kept { OnErr result (self.new ≡ self.old) }
     {
         if !is_held {
-            return Err(if self.copy.is_kind(value) { 2 } else { 7 });
+            return Err(if self.copy.is_kind(value) {
+                access_errors::TEMPORARILY_UNAVAILABLE
+            } else {
+                access_errors::TYPE_INCONSISTENT
+            });
         }
         match self.copy.set(value) {
             Ok(_) => Ok(()),
-            Err(Misfit::Kind) => Err(7),
-            Err(Misfit::Range) => Err(11),
+            Err(Misfit::Kind) => Err(access_errors::TYPE_INCONSISTENT),
+            Err(Misfit::Range) => Err(access_errors::OBJECT_VALUE_INVALID),
         }
     }
 

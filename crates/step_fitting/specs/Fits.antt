@@ -19,6 +19,7 @@ use Rattle.bay_model.specs.declared.step.Step.{Step}
 use Rattle.bay_model.specs.declared.step.Step.TheVariants as steps
 use Rattle.sv_base.specs.Kinds.{kind_of, is_kind, is_in_range}
 use Rattle.step_fitting.specs.declared.fitting.Counts.{Counts}
+use Rattle.sv_base.specs.declared.rejections.TheConstants.{UNKNOWN_PDU, INVALID_PDU}
 
 abbrev pub is_visible : List ℕ → Bool
 is_visible octets = list_all (λ o. nat_le 32 o && nat_le o 126) octets
@@ -70,7 +71,7 @@ service_fits n (services.WriteSet domain item vs) = set_fits domain item && are_
 service_fits n (services.Define domain item members) = set_fits domain item && list_all (target_fits n) members
 service_fits n (services.SetOf domain item) = set_fits domain item
 service_fits n (services.Delete scope sets) = list_all set_name_fits sets
-service_fits n (services.Reject number) = nat_le 1 number && nat_le number 4
+service_fits n (services.Reject number) = nat_le UNKNOWN_PDU number && nat_le number INVALID_PDU
 service_fits n _ = true
 
 -- of the type and the size of its attribute

@@ -14,7 +14,7 @@ ghost use Rattle.step_fitting.specs.Fits.{is_association as is_association_numbe
 
 use bay_model::{AttrRow, ObjName, Service, SetName, Setting, Step, Target, Write};
 use bay_rooms::{fits_int, fits_uint};
-use sv_base::{AssocNo, AttrId, TypeOf, Value};
+use sv_base::{AssocNo, AttrId, TypeOf, Value, rejections};
 
 /// How many nodes, blocks and controls there are.
 #[derive(Clone, Copy)]
@@ -150,7 +150,8 @@ fn service_fits(counts: Counts, service: &Service) -> bool
         }
         Service::SetOf { domain, item } => set_fits(domain.as_slice(), item.as_slice()),
         Service::Delete { names, .. } => sets_fit(names.as_slice()),
-        Service::Reject(number) => 1 <= *number && *number <= 4,
+        Service::Reject(number) => rejections::UNKNOWN_PDU <= *number
+            && *number <= rejections::INVALID_PDU,
         _ => true,
     }
 }

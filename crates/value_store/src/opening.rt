@@ -16,7 +16,7 @@ use crate::store::{Cell, Store};
 use bay_model::is_setting;
 use bay_rooms::Slot;
 use std::alloc::{AllocError, Global};
-use sv_base::{AttrDef, Config, CtlDef, CtlParameter, SgDef, TypeOf, Value};
+use sv_base::{AttrDef, Config, CtlDef, CtlParameter, SgDef, TypeOf, Value, ctl_models};
 
 /// Adds an attribute.
 fn push(
@@ -139,7 +139,7 @@ fn push_parameters(alloc: Global, cells: &mut Vec<Cell>, control: &CtlDef) -> Re
 {
     let model = Value::Int(i64::from(control.model));
     push(alloc, cells, &CtlParameter::CtlModel.kind(), &model, false)?;
-    if control.model == 2 || control.model == 4 {
+    if control.model == ctl_models::SBO_NORMAL || control.model == ctl_models::SBO_ENHANCED {
         push_selection(alloc, cells, control)?;
     }
     Ok(())
