@@ -18,8 +18,8 @@ use Rattle.bay_model.specs.declared.control.Termination.{Termination}
 use Rattle.bay_answers.specs.RepliesVariables.{variable_octets}
 use Rattle.bay_answers.specs.ControlPdus.{error_variable, origin_octets, error_parts, error_data, oper_item, oper_variable, report_of, error_pdu, termination_of, termination_pdu, IsShortError, HasShortName, IsShortTermination}
 
-variable-short : (name : List ℕ) → length (variable_octets name []) ≤ 16 + length name
-variable-short name = omega (arith, octets_short 0x30 (octets_of 0xa0 name ++ []), length-append (octets_of 0xa0 name) [], octets_short 0xa0 name)
+variable-short : (name : List ℕ) → length (variable_octets name) ≤ 16 + length name
+variable-short name = omega (arith, octets_short 0x30 (octets_of 0xa0 name), octets_short 0xa0 name)
 
 pub error-variable-short : length error_variable ≤ 37
 error-variable-short = omega (arith, variable-short (octets_of 0x80 (codes "LastApplError")), octets_short 0x80 (codes "LastApplError"))

@@ -37,27 +37,17 @@ only_told (names.Vmd o) v small = (written 128 o, whole_last 128 o (omega arith)
 only_told (names.Domain d i) v small = domain_told d i v.0 v.1 small
 only_told (names.Assoc o) v small = (written 130 o, whole_last 130 o (omega arith) (λ e. omega (arith, e)) small, (refl, refl))
 
--- an item without alternate access
-plain_told : (n : ObjName) → IsVisibleName n → length (octets_of 160 (name_octets n) ++ []) < 2 ^ 32
-    → IsVariable (written 48 (octets_of 160 (name_octets n) ++ [])) (record { name = name_told n; alternate = false })
+-- an item, which has no alternate access
+plain_told : (n : ObjName) → IsVisibleName n → length (octets_of 160 (name_octets n)) < 2 ^ 32
+    → IsVariable (written 48 (octets_of 160 (name_octets n))) (record { name = name_told n; alternate = false })
 plain_told n v small =
-    let field : length (octets_of 160 (name_octets n)) < 2 ^ 32 = omega (arith, small, length-append (octets_of 160 (name_octets n)) []) in
-    let row : IsRow (octets_of 160 (name_octets n) ++ []) (written 160 (name_octets n) ∷ []) = written_more 160 (name_octets n) [] [] (one_octet 160 (omega arith) (λ e. omega (arith, e))) (inside 160 (name_octets n) (2 ^ 32) field) refl in
-    (refl, written 160 (name_octets n) ∷ [], row, (refl, only_told n v (inside 160 (name_octets n) (2 ^ 32) field), refl))
-
--- and one with it
-alternate_told : (n : ObjName) → IsVisibleName n → length (octets_of 160 (name_octets n) ++ octets_of 165 []) < 2 ^ 32
-    → IsVariable (written 48 (octets_of 160 (name_octets n) ++ octets_of 165 [])) (record { name = name_told n; alternate = true })
-alternate_told n v small =
-    let field : length (octets_of 160 (name_octets n)) < 2 ^ 32 = omega (arith, small, length-append (octets_of 160 (name_octets n)) (octets_of 165 [])) in
-    let row : IsRow (octets_of 160 (name_octets n) ++ octets_of 165 []) (written 160 (name_octets n) ∷ written 165 [] ∷ []) =
-    written_more 160 (name_octets n) (octets_of 165 []) (written 165 [] ∷ []) (one_octet 160 (omega arith) (λ e. omega (arith, e))) (inside 160 (name_octets n) (2 ^ 32) field) (whole_last 165 [] (omega arith) (λ e. omega (arith, e)) (omega arith)) in
-    (refl, written 160 (name_octets n) ∷ written 165 [] ∷ [], row, (refl, only_told n v (inside 160 (name_octets n) (2 ^ 32) field), (refl, refl)))
+    let row : IsRow (octets_of 160 (name_octets n)) (written 160 (name_octets n) ∷ []) = whole_last 160 (name_octets n) (omega arith) (λ e. omega (arith, e)) small in
+    (refl, written 160 (name_octets n) ∷ [], row, (refl, only_told n v (inside 160 (name_octets n) (2 ^ 32) small), refl))
 
 abbrev item : Target → List ℕ
-item (targets.Node n name) = octets_of 160 (name_octets name) ++ []
-item (targets.Missing name) = octets_of 160 (name_octets name) ++ []
-item (targets.Alternate name) = octets_of 160 (name_octets name) ++ octets_of 165 []
+item (targets.Node n name) = octets_of 160 (name_octets name)
+item (targets.Missing name) = octets_of 160 (name_octets name)
+item (targets.Alternate name) = octets_of 160 (name_octets name)
 
 itemised : (t : Target) → target_octets t ≡ octets_of 48 (item t)
 unfolding target_octets
@@ -68,7 +58,7 @@ itemised (targets.Alternate name) = refl
 item_told : (t : Target) → IsVisibleTarget t → length (item t) < 2 ^ 32 → IsVariable (written 48 (item t)) (target_told t)
 item_told (targets.Node n name) v small = plain_told name v small
 item_told (targets.Missing name) v small = plain_told name v small
-item_told (targets.Alternate name) v small = alternate_told name v small
+item_told (targets.Alternate name) v small = plain_told name v small
 
 items_told : (ts : List Target) → AllByRecursion IsVisibleTarget ts → length (flat_map target_octets ts) < 2 ^ 32 → (es : List Element) × IsRow (flat_map target_octets ts) es × Each IsVariable es (map target_told ts)
 items_told [] v small = ([], refl, tt)

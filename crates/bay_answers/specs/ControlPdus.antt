@@ -18,7 +18,7 @@ use Rattle.bay_answers.specs.RepliesVariables.{variable_octets}
 
 -- the variable LastApplError, which is vmd-specific
 abbrev pub error_variable : List ℕ
-error_variable = variable_octets (octets_of VMD_SPECIFIC (codes "LastApplError")) []
+error_variable = variable_octets (octets_of VMD_SPECIFIC (codes "LastApplError"))
 
 -- Origin: orCat, and orIdent
 abbrev pub origin_octets : ApplError → List ℕ
@@ -37,7 +37,7 @@ abbrev pub oper_item : CtlDef → List ℕ
 oper_item k = k.ln ++ (codes "$CO$" ++ (k.path ++ 36 ∷ service_name Oper))
 
 abbrev pub oper_variable : CtlDef → List ℕ
-oper_variable k = variable_octets (domain_name k.domain (oper_item k)) []
+oper_variable k = variable_octets (domain_name k.domain (oper_item k))
 
 -- an information report of a list of variables, and their values
 abbrev pub report_of : List ℕ → List ℕ → List ℕ

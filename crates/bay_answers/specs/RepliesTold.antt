@@ -57,7 +57,7 @@ name_told (names.Assoc o) = association o
 abbrev pub target_told : Target → Variable (List ℕ)
 target_told (targets.Node n name) = record { name = name_told name; alternate = false }
 target_told (targets.Missing name) = record { name = name_told name; alternate = false }
-target_told (targets.Alternate name) = record { name = name_told name; alternate = true }
+target_told (targets.Alternate name) = record { name = name_told name; alternate = false }
 
 -- the identifiers of a domain-specific name are visible
 abbrev pub IsVisibleName : ObjName → Type 0

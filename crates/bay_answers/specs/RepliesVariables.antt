@@ -5,7 +5,7 @@ use Rattle.ber_write.specs.Minimal.{octets_of}
 use Rattle.sv_base.specs.declared.config.Config.{Config}
 use Rattle.sv_base.specs.declared.numbers.NodeId.{NodeId}
 use Rattle.mms_pdu.specs.AskingOctets.{domain_name}
-use Rattle.mms_elements.specs.declared.tags.TheConstants.{AA_SPECIFIC, ALTERNATE_ACCESS, LIST_OF_VARIABLE, NAME, SPECIFICATION_OF_RESULT, VARIABLE, VARIABLE_LIST_NAME, VMD_SPECIFIC}
+use Rattle.mms_elements.specs.declared.tags.TheConstants.{AA_SPECIFIC, LIST_OF_VARIABLE, NAME, SPECIFICATION_OF_RESULT, VARIABLE, VARIABLE_LIST_NAME, VMD_SPECIFIC}
 use Rattle.bay_model.specs.declared.request.ObjName.{ObjName}
 use Rattle.bay_model.specs.declared.request.ObjName.TheVariants as names
 use Rattle.bay_model.specs.declared.request.Target.{Target}
@@ -21,15 +21,15 @@ name_octets (names.Vmd o) = octets_of VMD_SPECIFIC o
 name_octets (names.Domain d i) = domain_name d i
 name_octets (names.Assoc o) = octets_of AA_SPECIFIC o
 
--- an item of listOfVariable, a SEQUENCE: the name, and what stands behind it
-abbrev pub variable_octets : List ℕ → List ℕ → List ℕ
-variable_octets name behind = octets_of VARIABLE (octets_of NAME name ++ behind)
+-- an item of listOfVariable, a SEQUENCE: the name, without alternate access
+abbrev pub variable_octets : List ℕ → List ℕ
+variable_octets name = octets_of VARIABLE (octets_of NAME name)
 
--- A variable as it was asked for. Of alternate access nothing is kept but that it was asked for.
+-- a variable as it was asked for, but for alternate access, of which nothing is written back
 unfoldable pub target_octets : Target → List ℕ
-target_octets (targets.Node n name) = variable_octets (name_octets name) []
-target_octets (targets.Missing name) = variable_octets (name_octets name) []
-target_octets (targets.Alternate name) = variable_octets (name_octets name) (octets_of ALTERNATE_ACCESS [])
+target_octets (targets.Node n name) = variable_octets (name_octets name)
+target_octets (targets.Missing name) = variable_octets (name_octets name)
+target_octets (targets.Alternate name) = variable_octets (name_octets name)
 
 -- variableAccessSpecification: listOfVariable, or variableListName
 unfoldable pub asked_octets : Asked → List ℕ
@@ -42,4 +42,4 @@ unfoldable pub node_name : Config → NodeId → List ℕ
 node_name c n = domain_name (node_of (configured_model c) n.0).domain (node_of (configured_model c) n.0).item
 
 abbrev pub node_octets : Config → NodeId → List ℕ
-node_octets c n = variable_octets (node_name c n) []
+node_octets c n = variable_octets (node_name c n)

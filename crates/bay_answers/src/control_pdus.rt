@@ -24,7 +24,7 @@ fn add_error_variable(alloc: Global, out: &mut Vec<u8>) -> Result<(), AllocError
     ensures { OnOk result (out.new.items ≡ out.old.items ++ error_variable) }
 {
     let name = enclosed(alloc, pdu_tags::VMD_SPECIFIC, b"LastApplError")?;
-    add_variable(alloc, out, name.as_slice(), &[])
+    add_variable(alloc, out, name.as_slice())
 }
 
 /// Who gave a command.
@@ -78,7 +78,7 @@ fn add_oper_variable(alloc: Global, out: &mut Vec<u8>, control: &CtlDef) -> Resu
 {
     let item = oper_item(alloc, control)?;
     let name = domain_octets(alloc, control.domain.as_slice(), item.as_slice())?;
-    add_variable(alloc, out, name.as_slice(), &[])
+    add_variable(alloc, out, name.as_slice())
 }
 
 /// An information report of a list of variables and their values.

@@ -24,7 +24,7 @@ pub fn names_are_as_many_as_fit()
 {}
 
 /// The responses of Write and of Read are read by a client, and tell it of each variable, in order, what came of it. Where
-/// what was read is written back it is told as it was asked for, but for what alternate access was asked for.
+/// what was read is written back it is told as it was asked for, but for alternate access.
 pub fn responses_are_read_back()
     ensures read { (invoke : ℕ) (results : List (Result Value ℕ)) → IsShort invoke READ (read_content No results) → AllByRecursion IsResultOfTypes results
         → IsReadBack invoke READ (read_content No results) × AreTold TellsResult (results_octets results) results }

@@ -44,34 +44,27 @@ fn name(alloc: Global, name: &ObjName) -> Result<Vec<u8>, AllocError>
     }
 }
 
-/// Adds an item of a list: a name, and what stands behind it.
+/// Adds an item of a list: a name, without alternate access.
 pub(crate) fn add_variable(
     alloc: Global,
     out: &mut Vec<u8>,
     name: &[u8],
-    behind: &[u8],
 ) -> Result<(), AllocError>
-    ensures { OnOk result (out.new.items ≡ out.old.items ++ variable_octets name.now behind.now) }
+    ensures { OnOk result (out.new.items ≡ out.old.items ++ variable_octets name.now) }
 {
-    let mut content = enclosed(alloc, tags::NAME, name)?;
-    content.extend_from_slice(behind)?;
+    let content = enclosed(alloc, tags::NAME, name)?;
     add(out, tags::VARIABLE, content.as_slice())
 }
 
-/// Adds a variable as it was asked for.
+/// Adds a variable as it was asked for, but for alternate access.
 #[tactic(auto, unfolding(crate::specs::RepliesVariables::target_octets))]
 fn add_target(alloc: Global, out: &mut Vec<u8>, target: &Target) -> Result<(), AllocError>
     ensures { OnOk result (out.new.items ≡ out.old.items ++ target_octets target.now) }
 {
     match target {
-        Target::Node(_, asked) => add_variable(alloc, out, name(alloc, asked)?.as_slice(), &[]),
-        Target::Missing(asked) => add_variable(alloc, out, name(alloc, asked)?.as_slice(), &[]),
-        Target::Alternate(asked) => add_variable(
-            alloc,
-            out,
-            name(alloc, asked)?.as_slice(),
-            &[tags::ALTERNATE_ACCESS as u8, 0],
-        ),
+        Target::Node(_, asked) | Target::Missing(asked) | Target::Alternate(asked) => {
+            add_variable(alloc, out, name(alloc, asked)?.as_slice())
+        }
     }
 }
 
@@ -136,7 +129,7 @@ fn add_node(alloc: Global, out: &mut Vec<u8>, model: &Model, node: NodeId) -> Re
     ensures { OnOk result (out.new.items ≡ out.old.items ++ node_octets model.now node) }
 {
     let name = node_name(alloc, model, node)?;
-    add_variable(alloc, out, name.as_slice(), &[])
+    add_variable(alloc, out, name.as_slice())
 }
 
 /// Adds nodes by their names.

@@ -7,5 +7,5 @@ use Rattle.bay_answers.proofs.control_pdus.add_oper_variable.Goals as goal
 
 pub returns : goal.returns
 returns c =
-    subst (λ x. OnOk c.add_variable.result (c.add_variable.new.out.items ≡ c.args.out.now.items ++ variable_octets x []))
+    subst (λ x. OnOk c.add_variable.result (c.add_variable.new.out.items ≡ c.args.out.now.items ++ variable_octets x))
     (c.as_slice-3.ensures.value ∙ (c.in_ok-name.ensures ∙ ap₂ domain_name c.as_slice.ensures (c.as_slice-2.ensures.value ∙ c.in_ok-item.ensures))) c.add_variable.ensures
