@@ -1,6 +1,6 @@
 -- A whole record is read to its end.
-use Rattle.std.proofs.Common.{◌≡◌, ◌≤◌, ◌+◌, ◌-◌, ◌==◌, ℕ, suc, Bool, false, List, [], ◌∷◌, ◌++◌, length, take, refl, sym, ap, ◌∙◌, arith, append_assoc, append-nil}
-use Rattle.std.specs.Prelude.{Ok, codes, map, nat_lt, if◌then◌else◌}
+use Rattle.std.proofs.Common.{◌≡◌, ◌≤◌, ◌+◌, ◌-◌, ◌==◌, ℕ, suc, Bool, false, List, [], ◌∷◌, ◌++◌, length, take, refl, sym, ap, subst, ◌∙◌, arith, append_assoc, append-nil}
+use Rattle.std.specs.Prelude.{Ok, codes, map, nat_lt, Option, None, Some, IfSome, if◌then◌else◌}
 use Rattle.answer_text.specs.Texts as texts
 use Rattle.stream_lines.specs.declared.shape.Shape.{Shape}
 use Rattle.bay_model.specs.Named.{configured_model}
@@ -32,7 +32,8 @@ use Rattle.record_outcome.specs.declared.status.Status.TheVariants as statuses
 use Rattle.record_outcome.proofs.LineLaws.{run-line}
 use Rattle.record_outcome.proofs.LastLaws.{end-stops}
 use Rattle.std.proofs.lemmas.List.Elements.{All-from_recursion}
-use Rattle.record_outcome.specs.Grammar.{AreDone, CanBeDone, IsStepLine, AreStepLines, IsRemark, IsInner, Each, record_octets, IsRecord}
+use Rattle.record_outcome.specs.Grammar.{AreDone, CanBeDone, IsStepLine, AreStepLines, IsRemark, IsInner, Each, record_octets, IsRecord, IsNoRecord}
+use Rattle.record_outcome.specs.Judgements.{IsJudgement, IsRefusal, Answers}
 use Rattle.record_outcome.proofs.HistoryLaws.{standing, grown, onto-line, onto-behind, at, onwards}
 use Rattle.list_laws.proofs.Appended.{take-front}
 use Rattle.list_laws.proofs.Places.{not-below}
@@ -180,3 +181,18 @@ records-end octets c r =
     ap (take limit) (r.octets_ ∙ rest-behind r.remarks r.inner r.steps r.rest) ∙ (take-front limit front r.rest r.short ∙ sym (rest-behind r.remarks r.inner r.steps (take (limit - length front) r.rest))) in
     ap (λ o. status-of (nat_lt limit (length octets)) 0 opening o) kept
     ∙ record-ends (nat_lt limit (length octets)) r.remarks r.inner r.steps (take (limit - length front) r.rest) c r.are_remarks r.are_inner (config-read (octets_of r.inner ++ (codes "end" ++ 10 ∷ [])) c r.configuration) r.are_steps r.lines
+
+-- and so it isn't refused
+pub judged : (status : Status) → IsRefusal status → IsJudgement status
+judged statuses.Ok r = tt
+judged statuses.Words r = absurd r
+judged (statuses.Record line kind) r = tt
+judged (statuses.Config line kind) r = tt
+judged (statuses.Limit which line) r = tt
+judged statuses.Memory r = absurd r
+judged statuses.ReadFault r = absurd r
+judged statuses.WriteFault r = absurd r
+
+pub refused-none : (status : Status) (left old new : Option (List ℕ)) → IsRefusal status → IfSome left (λ b. Answers b status old new) → IfSome left IsNoRecord
+refused-none status None old new r a = tt
+refused-none status (Some b) old new r a = λ c is. subst IsRefusal (a.0 ∙ records-end b c is) r

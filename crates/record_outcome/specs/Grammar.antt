@@ -75,3 +75,7 @@ pub record IsRecord (octets : List ℕ) (c : Config) : Type 0 where
   pub are_steps : AreStepLines c [] steps
   pub lines : length remarks + length inner + length steps + 3 ≤ most_lines
   pub short : length (record_octets remarks inner steps []) ≤ limit
+
+-- they begin with none
+abbrev pub IsNoRecord : List ℕ → Type 0
+IsNoRecord octets = (c : Config) → IsRecord octets c → ⊥

@@ -6,7 +6,8 @@ ghost use Rattle.sv_io.specs.Causes.{HasCause, Rose};
 ghost use Rattle.record_outcome.specs.Records.{NoNewline, has_begun, ended};
 ghost use Rattle.record_session.specs.Sessions.{Takes, steps_in, IsEarly, IsAt};
 ghost use Rattle.sv_io.specs.Taken.{TakesAtMost};
-ghost use Rattle.record_outcome.specs.Judgements.{IsJudgement, IsOfReplay, Answers};
+ghost use Rattle.record_outcome.specs.Judgements.{IsJudgement, IsRefusal, IsOfReplay, Answers};
+ghost use Rattle.record_outcome.specs.Grammar.{IsNoRecord};
 ghost use Rattle.record_outcome.specs.Written.{WritesHistory};
 ghost use Rattle.record_session.specs.Runs.{IsReady, Run};
 ghost use Rattle.record_outcome.specs.Moves.{Place};
@@ -225,6 +226,7 @@ fn run<S: Source, K: Sink>(
 pub fn replay_record<S: Source, K: Sink>(alloc: Global, source: &mut S, sink: &mut K) -> Status
     ensures told { IsJudgement result → IfSome (S.left source.old) (λ b. Answers b result (K.taken sink.old) (K.taken sink.new)) }
     ensures history { IsJudgement result → IfSome (S.left source.old) (λ b. WritesHistory b result (K.taken sink.old) (K.taken sink.new)) }
+    ensures whole { IsRefusal result → IfSome (S.left source.old) IsNoRecord }
     ensures listed { IsOfReplay result }
     ensures taken { TakesAtMost 67108865 (S.left source.old) (S.left source.new) }
     ensures read { result ≡ Status.ReadFault → Rose (S.faults source.old) (S.faults source.new) }

@@ -6,7 +6,8 @@ ghost use Rattle.sv_io.specs.Taken.{TakesAtMost};
 ghost use Rattle.record_outcome.specs.Written.{WritesHistory};
 ghost use Rattle.replay_run.specs.Checked.{IsChecked, IsOfCheck, Checks};
 ghost use Rattle.replay_run.specs.Tool.{IsReplay, IsCheck, IsCommand};
-ghost use Rattle.record_outcome.specs.Judgements.{IsJudgement, IsOfReplay, Answers};
+ghost use Rattle.record_outcome.specs.Judgements.{IsJudgement, IsRefusal, IsOfReplay, Answers};
+ghost use Rattle.record_outcome.specs.Grammar.{IsNoRecord};
 
 use crate::check::check;
 use command_line::is_word;
@@ -32,6 +33,9 @@ pub fn tool<S: Source, K: Sink>(
     // Up to where the reading stops the sink took the text of the record's history, whose steps are accepted; then `end`, exactly at Ok.
     ensures history { IsReplay words.now → IsJudgement result → IfSome (S.left source.old) (λ b. WritesHistory b result (K.taken sink.old) (K.taken sink.new)) }
     ensures replays { IsReplay words.now → IsOfReplay result }
+
+    // A record of the grammar within the limits is not refused.
+    ensures whole { IsReplay words.now → IsRefusal result → IfSome (S.left source.old) IsNoRecord }
 
     // The counts of a configuration, or its first refused line, by the configuration's octets.
     ensures checked { IsCheck words.now → IsChecked result → IfSome (S.left source.old) (λ b. Checks b result (K.taken sink.old) (K.taken sink.new)) }
