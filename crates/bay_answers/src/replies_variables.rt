@@ -45,11 +45,7 @@ fn name(alloc: Global, name: &ObjName) -> Result<Vec<u8>, AllocError>
 }
 
 /// Adds an item of a list: a name, without alternate access.
-pub(crate) fn add_variable(
-    alloc: Global,
-    out: &mut Vec<u8>,
-    name: &[u8],
-) -> Result<(), AllocError>
+pub(crate) fn add_variable(alloc: Global, out: &mut Vec<u8>, name: &[u8]) -> Result<(), AllocError>
     ensures { OnOk result (out.new.items ≡ out.old.items ++ variable_octets name.now) }
 {
     let content = enclosed(alloc, tags::NAME, name)?;
