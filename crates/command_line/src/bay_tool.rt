@@ -2,21 +2,24 @@
 
 use crate::program::Program;
 
-/// The program that replays records and checks configurations.
+/// The program that replays records, makes them, and checks configurations.
 pub const BAY_TOOL: Program = Program {
     name: "bay_tool",
     usage: "usage: bay_tool replay < RECORD
        bay_tool check < CONFIGURATION
+       bay_tool gen SEED COUNT
        bay_tool -h | --help | --version
 
 replay   reads a record of what a process and its clients did, and writes
          what each step is answered
 check    reads a configuration, and writes its counts of domains, logical
          nodes, attributes, data sets, report control blocks and controls
+gen      writes a record of COUNT lines, 1 to 100000, that are drawn from SEED,
+         0 to 18446744073709551615; the same words write the same record
 
 A status other than 0 has a line on standard error, `bay_tool: ` and words:
 
-  0                          read to the end
+  0                          read to the end, or written
   1  words                   other words than those above
   2  record line L kind K    line L of the record is refused
   3  config line L kind K    line L of the configuration is refused

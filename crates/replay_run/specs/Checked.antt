@@ -34,13 +34,6 @@ IsOfCheck (statuses.Record line kind) = ⊥
 IsOfCheck (statuses.Limit which line) = ⊥
 IsOfCheck _ = Unit {0}
 
--- a status of writing the counts
-abbrev pub IsOfTelling : Status → Type 0
-IsOfTelling statuses.Ok = Unit {0}
-IsOfTelling statuses.Memory = Unit {0}
-IsOfTelling statuses.WriteFault = Unit {0}
-IsOfTelling _ = ⊥
-
 -- the counts are written, or the first refused line is told and nothing is written
 abbrev pub Tells : Result Config CfgFault → Status → Option (List ℕ) → Option (List ℕ) → Type 0
 Tells (Ok config) outcome old new = (outcome ≡ statuses.Ok) × Appends old new (counts config)

@@ -1,4 +1,8 @@
+-- Which words ask for a made record.
+pub mod Made
 -- What the program answers.
 pub mod Tool
+-- How a text is written.
+pub mod Writing
 -- What is answered to a configuration.
 pub mod Checked

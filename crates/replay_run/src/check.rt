@@ -4,7 +4,8 @@ ghost use Rattle.std.specs.Prelude.{◌≡◌, ◌≤◌, ◌++◌, IfOk, IfSome
 ghost use Rattle.std.specs.Io.KnownBytes.{Appends};
 ghost use Rattle.sv_io.specs.Causes.{Rose};
 ghost use Rattle.sv_io.specs.Taken.{TakesAtMost};
-ghost use Rattle.replay_run.specs.Checked.{count, counts, IsChecked, IsOfCheck, IsOfTelling, Checks};
+ghost use Rattle.replay_run.specs.Checked.{count, counts, IsChecked, IsOfCheck, Checks};
+ghost use Rattle.replay_run.specs.Writing.{IsOfWriting};
 
 use cfg_text::{CfgFault, read_config};
 use object_model::domains;
@@ -42,7 +43,7 @@ fn counts_of(alloc: Global, config: &Config) -> Result<Vec<u8>, AllocError>
 /// Writes the counts of a configuration.
 fn tell<K: Sink>(alloc: Global, config: &Config, sink: &mut K) -> Status
     ensures told { result ≡ Status.Ok → Appends (K.taken sink.old) (K.taken sink.new) (counts config.now) }
-    ensures listed { IsOfTelling result }
+    ensures listed { IsOfWriting result }
     ensures write { result ≡ Status.WriteFault → Rose (K.faults sink.old) (K.faults sink.new) }
     ensures later { K.faults sink.old ≤ K.faults sink.new }
 {

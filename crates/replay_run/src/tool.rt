@@ -1,15 +1,19 @@
 //! All that the program does.
 
-ghost use Rattle.std.specs.Prelude.{◌≡◌, ◌≤◌, ◌↔◌, IfSome};
+ghost use Rattle.std.specs.Prelude.{◌≡◌, ◌≤◌, ◌↔◌, ℕ, IfSome};
+ghost use Rattle.std.specs.Io.KnownBytes.{Appends};
 ghost use Rattle.sv_io.specs.Causes.{Rose};
 ghost use Rattle.sv_io.specs.Taken.{TakesAtMost};
 ghost use Rattle.record_outcome.specs.Written.{WritesHistory};
 ghost use Rattle.replay_run.specs.Checked.{IsChecked, IsOfCheck, Checks};
-ghost use Rattle.replay_run.specs.Tool.{IsReplay, IsCheck, IsCommand};
+ghost use Rattle.replay_run.specs.Tool.{IsReplay, IsCheck, IsGen, IsCommand};
+ghost use Rattle.replay_run.specs.Writing.{IsOfWriting};
+ghost use Rattle.made_records.specs.Texts.{made};
 ghost use Rattle.record_outcome.specs.Judgements.{IsJudgement, IsRefusal, IsOfReplay, Answers};
 ghost use Rattle.record_outcome.specs.Grammar.{IsNoRecord};
 
 use crate::check::check;
+use crate::made::{asked_for, generate};
 use command_line::is_word;
 use record_outcome::status::Status;
 use record_session::replay::replay_record;
@@ -17,14 +21,15 @@ use std::alloc::Global;
 use sv_io::{Sink, Source};
 
 /// Does all that the program does. With the word `replay` it reads a record from the source, and writes the answers to its
-/// lines to the sink; with the word `check` it reads a configuration, and writes what it counts in it.
+/// lines to the sink; with the word `check` it reads a configuration, and writes what it counts in it; with `gen`, a seed
+/// and a count it writes the record that they make.
 pub fn tool<S: Source, K: Sink>(
     alloc: Global,
     words: &[String],
     source: &mut S,
     sink: &mut K,
 ) -> Status
-    // Words exactly where the words are neither the one word nor the other.
+    // Words exactly where the words are those of no command.
     ensures words { (result ≡ Status.Words) ↔ (IsCommand words.now → ⊥) }
 
     // Every status of the record, and the answers to its lines, by the record's octets.
@@ -41,6 +46,10 @@ pub fn tool<S: Source, K: Sink>(
     ensures checked { IsCheck words.now → IsChecked result → IfSome (S.left source.old) (λ b. Checks b result (K.taken sink.old) (K.taken sink.new)) }
     ensures checks { IsCheck words.now → IsOfCheck result }
 
+    // The record of the seed with so many drawn lines; nothing is read.
+    ensures generated { (seed : ℕ) → (count : ℕ) → IsGen words.now seed count → result ≡ Status.Ok → Appends (K.taken sink.old) (K.taken sink.new) (made seed count) }
+    ensures generates { (seed : ℕ) → (count : ℕ) → IsGen words.now seed count → IsOfWriting result × (source.new ≡ source.old) }
+
     // At most 67108865 octets are taken from the source; with other words source and sink are left alone.
     ensures taken { TakesAtMost 67108865 (S.left source.old) (S.left source.new) }
     ensures idle { (IsCommand words.now → ⊥) → (source.new ≡ source.old) × (sink.new ≡ sink.old) }
@@ -56,5 +65,8 @@ pub fn tool<S: Source, K: Sink>(
     if is_word(words, "check") {
         return check(alloc, source, sink);
     }
-    Status::Words
+    match asked_for(words, "gen") {
+        Some(asked) => generate(alloc, asked, sink),
+        None => Status::Words,
+    }
 }

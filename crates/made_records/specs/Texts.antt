@@ -1,0 +1,29 @@
+-- The text of a made record.
+use Rattle.std.specs.Prelude.{ℕ, true, false, List, ◌++◌, codes, decimal}
+use Rattle.std.specs.List.{flat_map}
+use Rattle.made_records.specs.declared.draw.Draw.{Draw}
+use Rattle.made_records.specs.declared.line.MadeLine.{MadeLine}
+use Rattle.made_records.specs.declared.line.MadeLine.TheVariants.{Power, Indication, At, Take}
+use Rattle.made_records.specs.Made.{first, lines_from}
+
+abbrev pub line_text : MadeLine → List ℕ
+line_text (Power n) = codes "set BAY1/MMXU1$MX$TotW$mag$i " ++ (decimal n ++ codes "\n")
+line_text (Indication true) = codes "set BAY1/GGIO1$ST$Ind1$stVal T\n"
+line_text (Indication false) = codes "set BAY1/GGIO1$ST$Ind1$stVal F\n"
+line_text (At moment) = codes "at " ++ (decimal moment ++ codes "\n")
+line_text Take = codes "take 1\n"
+
+-- so many lines, in order
+abbrev pub lines_text : ℕ → Draw → List ℕ
+lines_text n d = flat_map line_text (lines_from n d)
+
+-- what stands before the drawn lines: a configuration, and that a client enables its block
+abbrev pub opening : List ℕ
+opening = codes "record 1\nconfig 1\nserver Demo Bay 1\nld BAY1\nln LLN0\nset Events\nmember BAY1/XCBR1$ST$Pos\nmember BAY1/GGIO1$ST$Ind1\nmember BAY1/MMXU1$MX$TotW$mag$i\nbrcb brcbEv01 'Ev1 'BAY1/LLN0$Events 1 0111001110 0 011001 0 200\nln XCBR1\nattr ST Pos$stVal dbpos d 01\nattr ST Pos$q quality q 0000000000000\nattr ST Pos$t time - 0000000000000000\nln GGIO1\nattr ST Ind1$stVal bool d F\nattr ST Ind1$q quality q 0000000000000\nattr ST Ind1$t time - 0000000000000000\nln MMXU1\nattr MX TotW$mag$i int32 d 0\nend\nopen 1 direct\nwrite 1 BAY1/LLN0$BR$brcbEv01 RptEna T\n"
+
+abbrev pub ending : List ℕ
+ending = codes "end\n"
+
+-- the record that a seed makes with so many drawn lines
+abbrev pub made : ℕ → ℕ → List ℕ
+made seed count = opening ++ (lines_text count (first seed) ++ ending)
