@@ -1,4 +1,4 @@
-//! Replays a record, or checks a configuration: reads it from standard input, and writes the answers to standard output.
+//! Replays a record or checks a configuration, read from standard input, or makes a record; what comes of it goes to standard output.
 #![tactic(auto)]
 
 use command_line::{BAY_TOOL, show, words_of};

@@ -4,7 +4,7 @@ use Rattle.std.specs.Prelude.{codes, decimal, nat_lt, ◌==◌, if◌then◌else
 use Rattle.std.proofs.lemmas.Fmt.{length-decimal-le}
 use Rattle.made_records.specs.declared.draw.Draw.{Draw}
 use Rattle.made_records.specs.declared.line.MadeLine.TheVariants.{Power, Indication, At, Take}
-use Rattle.made_records.specs.Made.{next_number, choice, rest, line_by, drawn}
+use Rattle.made_records.specs.Made.{next_number, choice, rest, line_by, next_draw}
 use Rattle.made_records.specs.Texts.{line_text, lines_text}
 use Rattle.made_records.proofs.Drawing.{moment-more}
 
@@ -24,8 +24,8 @@ drawn-short d h = let x = next_number d.number in
 
 lines-short : (n : ℕ) (d : Draw) → d.moment + 499 * n < 2 ^ 60 → length (lines_text n d) ≤ 50 * n
 lines-short zero d h = omega arith
-lines-short (suc n) d h = let more : (drawn d).moment ≤ d.moment + 499 = moment-more d (drawn d) refl in
-    omega (arith, length-append (line_text (line_by d)) (lines_text n (drawn d)), drawn-short d (omega (arith, h)), lines-short n (drawn d) (omega (arith, h, more)))
+lines-short (suc n) d h = let more : (next_draw d).moment ≤ d.moment + 499 = moment-more d (next_draw d) refl in
+    omega (arith, length-append (line_text (line_by d)) (lines_text n (next_draw d)), drawn-short d (omega (arith, h)), lines-short n (next_draw d) (omega (arith, h, more)))
 
 pub piece_short : (k : ℕ) (d : Draw) (none piece : List ℕ) → none ≡ [] → piece ≡ none ++ lines_text k d → k ≤ 256 → d.moment + 499 * k < 2 ^ 60 → length piece ≤ 12800
 piece_short k d none piece none-is is few h = rw (is, none-is) (omega (arith, few, lines-short k d h))

@@ -5,7 +5,7 @@ use Rattle.made_records.specs.declared.made_record.Part.{Part}
 use Rattle.made_records.specs.declared.made_record.Part.TheVariants.{Opening, Lines, Nothing}
 use Rattle.made_records.specs.Texts.{opening, lines_text, ending}
 
-abbrev pub left : Part → Draw → ℕ → List ℕ
-left Opening d n = opening ++ (lines_text n d ++ ending)
-left Lines d n = lines_text n d ++ ending
-left Nothing d n = []
+abbrev pub octets_left : Part → Draw → ℕ → List ℕ
+octets_left Opening d n = opening ++ (lines_text n d ++ ending)
+octets_left Lines d n = lines_text n d ++ ending
+octets_left Nothing d n = []

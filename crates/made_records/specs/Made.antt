@@ -4,8 +4,8 @@ use Rattle.made_records.specs.declared.draw.Draw.{Draw}
 use Rattle.made_records.specs.declared.line.MadeLine.{MadeLine}
 use Rattle.made_records.specs.declared.line.MadeLine.TheVariants.{Power, Indication, At, Take}
 
-abbrev pub first : ℕ → Draw
-first seed = record { number = seed; moment = 441763200000 }
+abbrev pub first_draw : ℕ → Draw
+first_draw seed = record { number = seed; moment = 441763200000 }
 
 -- the next number; of it the number that chooses the line, and the one that the line's value comes from
 abbrev pub next_number : ℕ → ℕ
@@ -20,8 +20,8 @@ rest x = x / 2 ^ 33 / 8
 abbrev pub moment_by : ℕ → ℕ → ℕ
 moment_by x was = if choice x == 5 then was + rest x % 500 else was
 
-abbrev pub drawn : Draw → Draw
-drawn d = record { number = next_number d.number; moment = moment_by (next_number d.number) d.moment }
+abbrev pub next_draw : Draw → Draw
+next_draw d = record { number = next_number d.number; moment = moment_by (next_number d.number) d.moment }
 
 abbrev pub line_of : ℕ → ℕ → MadeLine
 line_of x moment = if nat_lt (choice x) 4 then Power (rest x % 1000)
@@ -34,9 +34,9 @@ line_by d = line_of (next_number d.number) d.moment
 -- so many lines, in order
 abbrev pub lines_from : ℕ → Draw → List MadeLine
 lines_from zero d = []
-lines_from (suc n) d = line_by d ∷ lines_from n (drawn d)
+lines_from (suc n) d = line_by d ∷ lines_from n (next_draw d)
 
 -- where the drawing is behind so many
-abbrev pub after : ℕ → Draw → Draw
-after zero d = d
-after (suc n) d = drawn (after n d)
+abbrev pub draw_after : ℕ → Draw → Draw
+draw_after zero d = d
+draw_after (suc n) d = next_draw (draw_after n d)

@@ -4,7 +4,7 @@ use Rattle.std.specs.List.{flat_map}
 use Rattle.made_records.specs.declared.draw.Draw.{Draw}
 use Rattle.made_records.specs.declared.line.MadeLine.{MadeLine}
 use Rattle.made_records.specs.declared.line.MadeLine.TheVariants.{Power, Indication, At, Take}
-use Rattle.made_records.specs.Made.{first, lines_from}
+use Rattle.made_records.specs.Made.{first_draw, lines_from}
 
 abbrev pub line_text : MadeLine → List ℕ
 line_text (Power n) = codes "set BAY1/MMXU1$MX$TotW$mag$i " ++ (decimal n ++ codes "\n")
@@ -25,5 +25,5 @@ abbrev pub ending : List ℕ
 ending = codes "end\n"
 
 -- the record that a seed makes with so many drawn lines
-abbrev pub made : ℕ → ℕ → List ℕ
-made seed count = opening ++ (lines_text count (first seed) ++ ending)
+abbrev pub made_record : ℕ → ℕ → List ℕ
+made_record seed count = opening ++ (lines_text count (first_draw seed) ++ ending)

@@ -1,7 +1,7 @@
 //! The numbers of a made record, and the line that each comes to.
 
 ghost use Rattle.std.specs.Prelude.{◌≡◌};
-ghost use Rattle.made_records.specs.Made.{first, drawn, line_by};
+ghost use Rattle.made_records.specs.Made.{first_draw, next_draw, line_by};
 
 use crate::line::MadeLine;
 
@@ -20,7 +20,7 @@ impl Draw {
 
     /// Nothing is drawn yet.
     pub fn new(seed: u64) -> Self
-        ensures { result ≡ first seed }
+        ensures { result ≡ first_draw seed }
     {
         Draw {
             number: seed,
@@ -32,7 +32,7 @@ impl Draw {
     pub fn next(&mut self) -> MadeLine
         requires { self.old.moment < 2 ^ 60 }
         ensures line { result ≡ line_by self.old }
-        ensures draw { self.new ≡ drawn self.old }
+        ensures draw { self.new ≡ next_draw self.old }
     {
         self.number = self
             .number

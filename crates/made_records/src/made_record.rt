@@ -1,8 +1,8 @@
 //! A made record, a piece at a time.
 
 ghost use Rattle.std.specs.Prelude.{◌≡◌, ◌≢◌, ◌↔◌, ◌≤◌, ◌<◌, ◌+◌, ◌*◌, ◌^◌, ◌++◌, [], length, IsTrue, IfOk, OnOk, OnErr};
-ghost use Rattle.made_records.specs.Made.{after};
-ghost use Rattle.made_records.specs.Texts.{lines_text, made};
+ghost use Rattle.made_records.specs.Made.{draw_after};
+ghost use Rattle.made_records.specs.Texts.{lines_text, made_record};
 
 use crate::draw::Draw;
 use crate::line::push_line;
@@ -42,7 +42,7 @@ write 1 BAY1/LLN0$BR$brcbEv01 RptEna T
 fn push_lines(out: &mut Vec<u8>, from: Draw, count: u32) -> Result<Draw, AllocError>
     requires { from.moment + 499 * count < 2 ^ 60 }
     ensures text { OnOk result (out.new.items ≡ out.old.items ++ lines_text count from) }
-    ensures draw { IfOk result (λ d. d ≡ after count from) }
+    ensures draw { IfOk result (λ d. d ≡ draw_after count from) }
     ensures moment { IfOk result (λ d. d.moment ≤ from.moment + 499 * count) }
 {
     let mut draw = from;
@@ -71,11 +71,11 @@ pub struct MadeRecord {
 
 impl Model for MadeRecord {
     ghost use Rattle.std.specs.Prelude.{ℕ, List, ◌+◌, ◌*◌, ◌<◌, ◌^◌};
-    ghost use Rattle.made_records.specs.Left.{left};
+    ghost use Rattle.made_records.specs.Left.{octets_left};
 
     ghost Value = { List ℕ };
 
-    ghost view = { λ r. left r.part r.draw r.count };
+    ghost view = { λ r. octets_left r.part r.draw r.count };
 
     ghost invariant = { λ r. r.draw.moment + 499 * r.count < 2 ^ 60 };
 }
@@ -83,7 +83,7 @@ impl Model for MadeRecord {
 impl MadeRecord {
     /// The record of a seed with so many drawn lines, whole.
     pub fn new(seed: u64, count: u32) -> Self
-        ensures { result ≡ made seed count }
+        ensures { result ≡ made_record seed count }
     {
         MadeRecord {
             part: Part::Opening,

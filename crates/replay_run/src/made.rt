@@ -3,7 +3,7 @@
 ghost use Rattle.std.specs.Prelude.{◌≡◌, ◌≤◌, ℕ, Some, IfSome};
 ghost use Rattle.std.specs.Io.KnownBytes.{Appends};
 ghost use Rattle.sv_io.specs.Causes.{Rose};
-ghost use Rattle.made_records.specs.Texts.{made};
+ghost use Rattle.made_records.specs.Texts.{made_record};
 ghost use Rattle.replay_run.specs.Made.{Asks};
 ghost use Rattle.replay_run.specs.Writing.{IsOfWriting};
 
@@ -27,7 +27,8 @@ pub struct Asked {
 /// What the words ask for, if they are this one, a seed and a count.
 pub fn asked_for(words: &[String], wanted: &str) -> Option<Asked>
     ensures some { IfSome result (λ a. Asks wanted.now words.now a.seed a.count) }
-    ensures each { (seed : ℕ) → (count : ℕ) → Asks wanted.now words.now seed count → result ≡ Some (record { seed = seed; count = count }) }
+    ensures each { (seed : ℕ) → (count : ℕ) → Asks wanted.now words.now seed count
+        → result ≡ Some (record { seed = seed; count = count }) }
 {
     let [word, seed, count] = words else {
         return None;
@@ -42,7 +43,7 @@ pub fn asked_for(words: &[String], wanted: &str) -> Option<Asked>
 
 /// Writes a made record. No more than a piece of it is in memory at once.
 pub fn generate<K: Sink>(alloc: Global, asked: Asked, sink: &mut K) -> Status
-    ensures told { result ≡ Status.Ok → Appends (K.taken sink.old) (K.taken sink.new) (made asked.seed asked.count) }
+    ensures told { result ≡ Status.Ok → Appends (K.taken sink.old) (K.taken sink.new) (made_record asked.seed asked.count) }
     ensures listed { IsOfWriting result }
     ensures write { result ≡ Status.WriteFault → Rose (K.faults sink.old) (K.faults sink.new) }
     ensures later { K.faults sink.old ≤ K.faults sink.new }

@@ -8,7 +8,7 @@ ghost use Rattle.record_outcome.specs.Written.{WritesHistory};
 ghost use Rattle.replay_run.specs.Checked.{IsChecked, IsOfCheck, Checks};
 ghost use Rattle.replay_run.specs.Tool.{IsReplay, IsCheck, IsGen, IsCommand};
 ghost use Rattle.replay_run.specs.Writing.{IsOfWriting};
-ghost use Rattle.made_records.specs.Texts.{made};
+ghost use Rattle.made_records.specs.Texts.{made_record};
 ghost use Rattle.record_outcome.specs.Judgements.{IsJudgement, IsRefusal, IsOfReplay, Answers};
 ghost use Rattle.record_outcome.specs.Grammar.{IsNoRecord};
 
@@ -47,7 +47,8 @@ pub fn tool<S: Source, K: Sink>(
     ensures checks { IsCheck words.now → IsOfCheck result }
 
     // The record of the seed with so many drawn lines; nothing is read.
-    ensures generated { (seed : ℕ) → (count : ℕ) → IsGen words.now seed count → result ≡ Status.Ok → Appends (K.taken sink.old) (K.taken sink.new) (made seed count) }
+    ensures generated { (seed : ℕ) → (count : ℕ) → IsGen words.now seed count → result ≡ Status.Ok
+        → Appends (K.taken sink.old) (K.taken sink.new) (made_record seed count) }
     ensures generates { (seed : ℕ) → (count : ℕ) → IsGen words.now seed count → IsOfWriting result × (source.new ≡ source.old) }
 
     // At most 67108865 octets are taken from the source; with other words source and sink are left alone.
