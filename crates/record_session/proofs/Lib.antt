@@ -5,3 +5,4 @@ pub mod LimitLaws
 pub mod ReadingOn
 pub mod Feeding
 pub mod Judging
+pub mod Fronts

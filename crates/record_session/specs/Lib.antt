@@ -3,3 +3,5 @@ pub mod Plays
 pub mod Sessions
 -- and of its octets, as a source gives them
 pub mod Runs
+-- whatever the status is
+pub mod Fronts

@@ -1,8 +1,8 @@
 //! A replay: a record is read in pieces, and the answers are handed on.
 
-ghost use Rattle.std.specs.Prelude.{◌≡◌, ◌≢◌, ◌≤◌, ◌<◌, ◌+◌, ◌-◌, ◌^◌, ℕ, List, [], suc, length, Option, IfOk, IfSome, IfNone, OnOk};
+ghost use Rattle.std.specs.Prelude.{◌≡◌, ◌≢◌, ◌≤◌, ◌<◌, ◌+◌, ◌-◌, ◌^◌, ℕ, List, [], suc, length, Option, IfOk, IfSome, IfNone, OnOk, OnErr};
 ghost use Rattle.std.specs.Io.KnownBytes.{Appends};
-ghost use Rattle.sv_io.specs.Causes.{HasCause, Rose};
+ghost use Rattle.sv_io.specs.Causes.{HasCause, Rose, GrowsByFront};
 ghost use Rattle.record_outcome.specs.Records.{NoNewline, has_begun, ended};
 ghost use Rattle.record_session.specs.Sessions.{Takes, steps_in, IsEarly, IsAt};
 ghost use Rattle.sv_io.specs.Taken.{TakesAtMost};
@@ -10,6 +10,7 @@ ghost use Rattle.record_outcome.specs.Judgements.{IsJudgement, IsRefusal, IsOfRe
 ghost use Rattle.record_outcome.specs.Grammar.{IsNoRecord};
 ghost use Rattle.record_outcome.specs.Written.{WritesHistory};
 ghost use Rattle.record_session.specs.Runs.{IsReady, Run};
+ghost use Rattle.record_session.specs.Fronts.{WritesFront, BeginsOn, FrontsOn};
 ghost use Rattle.record_outcome.specs.Moves.{Place};
 
 use crate::reader::Reader;
@@ -21,6 +22,7 @@ use sv_io::{Failed, Sink, Source, read_piece};
 /// Hands what was written to the sink.
 fn flush<K: Sink>(out: &mut Vec<u8>, sink: &mut K) -> Result<(), Failed>
     ensures taken { OnOk result (Appends (K.taken sink.old) (K.taken sink.new) out.old.items) }
+    ensures front { OnErr result (GrowsByFront (K.taken sink.old) (K.taken sink.new) out.old.items) }
     ensures empty { OnOk result (out.new.items ≡ []) }
     ensures cause { HasCause (K.faults sink.old) (K.faults sink.new) result }
 {
@@ -57,6 +59,7 @@ fn take_piece<K: Sink>(
     requires part { NoNewline reader.old.held.items }
     requires empty { out.old.items ≡ [] }
     ensures takes { IfOk result (λ stop. Takes stop reader.old reader.new piece.now (K.taken sink.old) (K.taken sink.new)) }
+    ensures front { BeginsOn reader.old piece.now (K.taken sink.old) (K.taken sink.new) }
     ensures judged { IfOk result (λ stop. IfSome stop IsJudgement) }
     ensures part { OnOk result (NoNewline reader.new.held.items) }
     ensures few { IfOk result (λ stop. IfNone stop (steps_in reader.new.session.stage + length reader.new.held.items
@@ -105,6 +108,7 @@ impl Replay {
     ghost use Rattle.std.specs.Bool.{MatchBool};
     ghost use Rattle.sv_io.specs.Causes.{Rose};
     ghost use Rattle.record_session.specs.Runs.{IsReady, Run, Turns};
+    ghost use Rattle.record_session.specs.Fronts.{FrontsOn};
     ghost use Rattle.record_outcome.specs.Judgements.{IsJudgement, IsOfReplay, Answers};
     ghost use Rattle.sv_io.specs.Taken.{TakesAtMost};
     ghost use Rattle.record_outcome.specs.declared.status.Status.TheVariants as statuses;
@@ -142,6 +146,7 @@ impl Replay {
         requires some { 0 < length piece.old }
         requires room { self.old.count < 67108864 }
         ensures turns { Turns result self.old self.new (S.left source.old) (S.left source.new) (K.taken sink.old) (K.taken sink.new) }
+        ensures front { FrontsOn self.old (S.left source.old) (S.left source.new) (K.taken sink.old) (K.taken sink.new) }
         ensures ready { IfNone result (IsReady self.new) }
         ensures further { IfNone result (self.old.count < self.new.count) }
         ensures taken { TakesAtMost (67108864 - self.old.count) (S.left source.old) (S.left source.new) }
@@ -182,6 +187,7 @@ impl Replay {
         requires full { 67108864 ≤ self.now.count }
         ensures told { (left taken told : Option (List ℕ)) → Run self.now.reader left (S.left source.old) taken told self.now.count
             → IsJudgement result → IfSome left (λ b. Answers b result taken told) }
+        ensures front { (told : Option (List ℕ)) → FrontsOn self.now (S.left source.old) (S.left source.new) told told }
         ensures listed { IsOfReplay result }
         ensures taken { TakesAtMost 1 (S.left source.old) (S.left source.new) }
         ensures read { result ≡ statuses.ReadFault → Rose (S.faults source.old) (S.faults source.new) }
@@ -208,6 +214,7 @@ fn run<S: Source, K: Sink>(
     requires some { 0 < length piece.old }
     ensures told { (left taken : Option (List ℕ)) → Run replay.old.reader left (S.left source.old) taken (K.taken sink.old) replay.old.count
         → IsJudgement result → IfSome left (λ b. Answers b result taken (K.taken sink.new)) }
+    ensures front { FrontsOn replay.old (S.left source.old) (S.left source.new) (K.taken sink.old) (K.taken sink.new) }
     ensures listed { IsOfReplay result }
     ensures taken { TakesAtMost (67108865 - replay.old.count) (S.left source.old) (S.left source.new) }
     ensures read { result ≡ Status.ReadFault → Rose (S.faults source.old) (S.faults source.new) }
@@ -227,6 +234,7 @@ pub fn replay_record<S: Source, K: Sink>(alloc: Global, source: &mut S, sink: &m
     ensures told { IsJudgement result → IfSome (S.left source.old) (λ b. Answers b result (K.taken sink.old) (K.taken sink.new)) }
     ensures history { IsJudgement result → IfSome (S.left source.old) (λ b. WritesHistory b result (K.taken sink.old) (K.taken sink.new)) }
     ensures whole { IsRefusal result → IfSome (S.left source.old) IsNoRecord }
+    ensures front { WritesFront (S.left source.old) (S.left source.new) (K.taken sink.old) (K.taken sink.new) }
     ensures listed { IsOfReplay result }
     ensures taken { TakesAtMost 67108865 (S.left source.old) (S.left source.new) }
     ensures read { result ≡ Status.ReadFault → Rose (S.faults source.old) (S.faults source.new) }

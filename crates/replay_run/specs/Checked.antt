@@ -1,6 +1,7 @@
 -- What is answered to a configuration.
 use Rattle.std.specs.Prelude.{◌≡◌, ℕ, List, [], ◌++◌, length, take, codes, decimal, Option, Result, Ok, Err}
 use Rattle.std.specs.Io.KnownBytes.{Appends}
+use Rattle.sv_io.specs.Causes.{GrowsByFront}
 use Rattle.sv_base.specs.declared.config.Config.{Config}
 use Rattle.bay_model.specs.NamedLines.{domains}
 use Rattle.cfg_parser.specs.declared.fault.CfgFault.{CfgFault}
@@ -43,3 +44,12 @@ Tells (Err faults.Memory) outcome old new = ⊥
 -- the status and what the sink took are those of the configuration that the octets are
 abbrev pub Checks : List ℕ → Status → Option (List ℕ) → Option (List ℕ) → Type 0
 Checks octets outcome old new = Tells (config_at (take most octets)) outcome old new
+
+-- a front of the counts is written, and of a refused configuration nothing
+abbrev pub TellsFront : Result Config CfgFault → Option (List ℕ) → Option (List ℕ) → Type 0
+TellsFront (Ok config) old new = GrowsByFront old new (counts config)
+TellsFront (Err fault) old new = Appends old new []
+
+-- whatever the status is, what the sink took is a front of the counts of the configuration that the octets are
+abbrev pub ChecksFront : List ℕ → Option (List ℕ) → Option (List ℕ) → Type 0
+ChecksFront octets old new = TellsFront (config_at (take most octets)) old new

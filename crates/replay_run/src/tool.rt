@@ -5,12 +5,13 @@ ghost use Rattle.std.specs.Io.KnownBytes.{Appends};
 ghost use Rattle.sv_io.specs.Causes.{Rose};
 ghost use Rattle.sv_io.specs.Taken.{TakesAtMost};
 ghost use Rattle.record_outcome.specs.Written.{WritesHistory};
-ghost use Rattle.replay_run.specs.Checked.{IsChecked, IsOfCheck, Checks};
+ghost use Rattle.replay_run.specs.Checked.{IsChecked, IsOfCheck, Checks, ChecksFront};
 ghost use Rattle.replay_run.specs.Tool.{IsReplay, IsCheck, IsGen, IsCommand};
 ghost use Rattle.replay_run.specs.Writing.{IsOfWriting};
 ghost use Rattle.made_records.specs.Texts.{made_record};
 ghost use Rattle.record_outcome.specs.Judgements.{IsJudgement, IsRefusal, IsOfReplay, Answers};
 ghost use Rattle.record_outcome.specs.Grammar.{IsNoRecord};
+ghost use Rattle.record_session.specs.Fronts.{WritesFront};
 
 use crate::check::check;
 use crate::made::{asked_for, generate};
@@ -42,9 +43,16 @@ pub fn tool<S: Source, K: Sink>(
     // A record of the grammar within the limits is not refused.
     ensures whole { IsReplay words.now → IsRefusal result → IfSome (S.left source.old) IsNoRecord }
 
+    // Whatever the status, the sink took a front of the answers to the octets that were taken from the source: of the text of their
+    // history, up to where the reading of them stops.
+    ensures front { IsReplay words.now → WritesFront (S.left source.old) (S.left source.new) (K.taken sink.old) (K.taken sink.new) }
+
     // The counts of a configuration, or its first refused line, by the configuration's octets.
     ensures checked { IsCheck words.now → IsChecked result → IfSome (S.left source.old) (λ b. Checks b result (K.taken sink.old) (K.taken sink.new)) }
     ensures checks { IsCheck words.now → IsOfCheck result }
+
+    // Whatever the status, a front of these counts.
+    ensures counted { IsCheck words.now → IfSome (S.left source.old) (λ b. ChecksFront b (K.taken sink.old) (K.taken sink.new)) }
 
     // The record of the seed with so many drawn lines; nothing is read.
     ensures generated { (seed : ℕ) → (count : ℕ) → IsGen words.now seed count → result ≡ Status.Ok

@@ -13,3 +13,7 @@ returns-clause-history g c = λ j. writes-history (g.S.Source.left c.args.source
 pub returns-clause-whole : goal.returns-clause-whole
 returns-clause-whole g c = λ r. refused-none c.run-status.result (g.S.Source.left c.args.source.now) (g.K.Sink.taken c.args.sink.now) (g.K.Sink.taken c.run-status.new.sink) r
     (c.run-status.ensures.told (g.S.Source.left c.args.source.now) (g.K.Sink.taken c.args.sink.now) (c.new-replay.ensures.run (g.S.Source.left c.args.source.now) (g.K.Sink.taken c.args.sink.now)) (judged c.run-status.result r))
+
+pub returns-clause-front : goal.returns-clause-front
+returns-clause-front g c =
+    c.run-status.ensures.front (g.S.Source.left c.args.source.now) (g.K.Sink.taken c.args.sink.now) (c.new-replay.ensures.run (g.S.Source.left c.args.source.now) (g.K.Sink.taken c.args.sink.now))

@@ -46,3 +46,9 @@ returns-in-Some-clause-taken g c = takes-more _ _ (67108865 - c.args.replay.now.
 pub returns-clause-taken : goal.returns-clause-taken
 returns-clause-taken g c = takes-more _ _ (67108865 - c.args.replay.now.count) (g.S.Source.left c.args.source.now) (g.S.Source.left c.loop-replay.source) (g.S.Source.left c.at_limit.new.source) c.loop-replay.invariant.taken c.at_limit.ensures.taken
     (omega (arith, c.loop-replay.invariant.start, c.loop-replay.invariant.ready.within))
+
+pub returns-in-Some-clause-front : goal.returns-in-Some-clause-front
+returns-in-Some-clause-front g c = λ left taken r. c.turn.ensures.front left taken (c.loop-replay.invariant.run left taken r)
+
+pub returns-clause-front : goal.returns-clause-front
+returns-clause-front g c = λ left taken r. c.at_limit.ensures.front (g.K.Sink.taken c.loop-replay.sink) left taken (c.loop-replay.invariant.run left taken r)

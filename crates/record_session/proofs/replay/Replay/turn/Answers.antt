@@ -3,6 +3,7 @@ use Rattle.std.proofs.Common.{◌≡◌, ◌≤◌, ◌+◌, [], length, take, s
 use Rattle.std.specs.Io.KnownBytes.{Consumes}
 use Rattle.record_session.specs.Runs.{Run}
 use Rattle.record_session.proofs.Judging.{run-more, run-stops, run-ends}
+use Rattle.record_session.proofs.Fronts.{run-front, piece-front}
 use Rattle.record_outcome.specs.declared.status.Status.TheVariants as statuses
 use Rattle.record_outcome.proofs.StatusLaws.{judged_replay, judged_read, judged_write}
 use Rattle.record_session.proofs.replay.Replay.turn.Goals as goal
@@ -60,3 +61,35 @@ returns-in-Ok-Some-clause-read g c = λ e.
 pub returns-in-Ok-Some-clause-write : goal.returns-in-Ok-Some-clause-write
 returns-in-Ok-Some-clause-write g c = λ e.
     let same : c.in-Ok-Some.status ≡ statuses.WriteFault = cc in absurd (judged_write c.in-Ok-Some.status (rw c.in-Ok-Some.field-0-is at c.in-Ok-Some.ensures.judged) same)
+
+pub returns-in-Err-clause-front : goal.returns-in-Err-clause-front
+returns-in-Err-clause-front g c = λ left taken r. run-front c.args.self.now.reader left (g.S.Source.left c.args.source.now) (g.S.Source.left c.read_piece.new.source) taken (g.K.Sink.taken c.args.sink.now)
+    c.args.self.now.count c.read_piece.ensures.taken.0 r c.read_piece.ensures.taken.2 c.requires.ready.within
+
+pub returns-then-length-eq0-clause-front : goal.returns-then-length-eq0-clause-front
+returns-then-length-eq0-clause-front g c = λ left taken r. run-front c.args.self.now.reader left (g.S.Source.left c.args.source.now) (g.S.Source.left c.read_piece.new.source) taken (g.K.Sink.taken c.args.sink.now)
+    c.args.self.now.count c.read_piece.ensures.taken.0 r c.read_piece.ensures.taken.2 c.requires.ready.within
+
+pub returns-in-Ok-None-clause-front : goal.returns-in-Ok-None-clause-front
+returns-in-Ok-None-clause-front g c = λ left taken r.
+    let short : length (take c.in-Ok.length c.read_piece.new.buf) ≤ c.in-Ok.length = rw length-take (omega (arith)) in
+    piece-front c.args.self.now.reader left (g.S.Source.left c.args.source.now) (g.S.Source.left c.read_piece.new.source) taken (g.K.Sink.taken c.args.sink.now) (g.K.Sink.taken c.take_piece.new.sink)
+    c.args.self.now.count (take c.in-Ok.length c.read_piece.new.buf) r c.in-Ok.ensures.bytes.0 c.take_piece.ensures.front (omega (arith, short, c.in-Ok.ensures.bound, c.min-room.ensures, c.requires.room))
+
+pub returns-in-Ok-Some-clause-front : goal.returns-in-Ok-Some-clause-front
+returns-in-Ok-Some-clause-front g c = λ left taken r.
+    let short : length (take c.in-Ok.length c.read_piece.new.buf) ≤ c.in-Ok.length = rw length-take (omega (arith)) in
+    piece-front c.args.self.now.reader left (g.S.Source.left c.args.source.now) (g.S.Source.left c.read_piece.new.source) taken (g.K.Sink.taken c.args.sink.now) (g.K.Sink.taken c.take_piece.new.sink)
+    c.args.self.now.count (take c.in-Ok.length c.read_piece.new.buf) r c.in-Ok.ensures.bytes.0 c.take_piece.ensures.front (omega (arith, short, c.in-Ok.ensures.bound, c.min-room.ensures, c.requires.room))
+
+pub returns-in-Err-Memory-clause-front : goal.returns-in-Err-Memory-clause-front
+returns-in-Err-Memory-clause-front g c = λ left taken r.
+    let short : length (take c.in-Ok.length c.read_piece.new.buf) ≤ c.in-Ok.length = rw length-take (omega (arith)) in
+    piece-front c.args.self.now.reader left (g.S.Source.left c.args.source.now) (g.S.Source.left c.read_piece.new.source) taken (g.K.Sink.taken c.args.sink.now) (g.K.Sink.taken c.take_piece.new.sink)
+    c.args.self.now.count (take c.in-Ok.length c.read_piece.new.buf) r c.in-Ok.ensures.bytes.0 c.take_piece.ensures.front (omega (arith, short, c.in-Ok.ensures.bound, c.min-room.ensures, c.requires.room))
+
+pub returns-in-Err-Write-clause-front : goal.returns-in-Err-Write-clause-front
+returns-in-Err-Write-clause-front g c = λ left taken r.
+    let short : length (take c.in-Ok.length c.read_piece.new.buf) ≤ c.in-Ok.length = rw length-take (omega (arith)) in
+    piece-front c.args.self.now.reader left (g.S.Source.left c.args.source.now) (g.S.Source.left c.read_piece.new.source) taken (g.K.Sink.taken c.args.sink.now) (g.K.Sink.taken c.take_piece.new.sink)
+    c.args.self.now.count (take c.in-Ok.length c.read_piece.new.buf) r c.in-Ok.ensures.bytes.0 c.take_piece.ensures.front (omega (arith, short, c.in-Ok.ensures.bound, c.min-room.ensures, c.requires.room))
