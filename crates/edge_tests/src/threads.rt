@@ -138,6 +138,7 @@ fn refused_of<R: Wait, M: StateMachine>(
         faults.0 = fault_of(history.turn(rt, &mut one, Moment::first(), &lost));
         faults.1 = fault_of(history.turn(rt, &mut one, Moment::first(), &lost));
     }
+    history.compare(&mut pass, &mut one);
     history.join(&mut pass, one);
     Ok((faults.0, faults.1, history.close(pass)))
 }

@@ -11,7 +11,7 @@ use Rattle.sv_base.specs.declared.config.Config.{Config}
 use Rattle.history_lock.specs.declared.view.View.{View}
 use Rattle.history_lock.specs.declared.view.Phase.{Phase}
 use Rattle.history_lock.specs.declared.view.Phase.TheVariants.{Idle, Drawn, Busy, Added}
-use Rattle.bay_histories.specs.Histories.{by}
+use Rattle.bay_histories.specs.Histories.{by, IsLegal}
 use Rattle.history_lock.specs.Views.{Stands, total, hit, has, has_phase, ticket_of, busy, busy_phase, added, added_phase, mine, aside_of, holds_number, left_of}
 use Rattle.history_lock.specs.Rule.{FollowsRule, Fits, FitsPhase, Table}
 use Rattle.history_lock.specs.Plays.{Seated, drawn, draws, served, looks, extended, appends, resting, passes, counts}
@@ -106,6 +106,7 @@ module _ {M : Type 0} (stands : Stands M) where
           apart = λ x. omega (arith, moved (holds_number x), k.apart x);
           given = λ x from. omega (arith, moved (holds_number x), k.given x from);
           unmade = k.unmade;
+          legal = k.legal;
         },
         refl,
       )
@@ -163,6 +164,7 @@ module _ {M : Type 0} (stands : Stands M) where
           apart = λ x. omega (arith, moved (holds_number x), k.apart x);
           given = λ x from. omega (arith, moved (holds_number x), k.given x from);
           unmade = k.unmade;
+          legal = k.legal;
         },
         (
           (λ _. (
@@ -203,8 +205,9 @@ module _ {M : Type 0} (stands : Stands M) where
       (dite (ℕ_discrete k.serving t) (λ e. served_now actors config n id m t waits s k long at e) (λ ne. not_yet actors config n id m t waits s k at ne))
 
   pub appends_kept : (actors : ℕ) (config : Config) (n id : ℕ) (m : Seated M) (e : Turn) (t : ℕ) → m.0.phase ≡ Busy t → 0 < mine e.actor m.0
+      → (config' : Config) × (m.0.config ≡ Some config') × IsLegal config' (e ∷ m.0.seen)
       → Allows (FollowsRule stands actors config) n id m 2 (λ x. (x + 1) % 2 ^ 64) (appends e (step n 2 1 0 none) m)
-  appends_kept actors config n id m e t turn some_of s k long at _ =
+  appends_kept actors config n id m e t turn some_of accepted s k long at _ =
       let v : View = m.0 in
       let me = k.seats id v at in
       let w : View = extended v (ticket_of v.phase) e in
@@ -272,6 +275,7 @@ module _ {M : Type 0} (stands : Stands M) where
           given = λ x from. omega (arith, moved (holds_number x), k.given x from);
           unmade = λ x from. by_none x k.log e (λ same. let z : holds_number e.actor v ≡ holds_number x v = ap (λ (y : ℕ). holds_number y v) same in
               omega (arith, term_le (holds_number x) s.views id v at, k.given x from)) ∙ k.unmade x from;
+          legal = subst (λ (z : Config × History). IsLegal z.0 z.1) (λ i. (me.told_config accepted.0 accepted.1 i, whole i)) accepted.2;
         },
         (ap length (sym fits.0), refl),
       )
@@ -333,6 +337,7 @@ module _ {M : Type 0} (stands : Stands M) where
           apart = λ x. omega (arith, moved (holds_number x), k.apart x);
           given = λ x from. omega (arith, moved (holds_number x), k.given x from);
           unmade = k.unmade;
+          legal = k.legal;
         },
         refl,
       )

@@ -1,5 +1,5 @@
 -- The start, seats that are cut and joined, and the end.
-use Rattle.std.proofs.Common.{◌≡◌, ℕ, zero, suc, ◌+◌, ◌-◌, ◌<◌, ◌≤◌, ◌≢◌, List, [], ◌∷◌, ◌++◌, length, set, sym, refl, ap, ◌∙◌, subst, ⊎_elim, arith, cond, Option, Some, append-nil, ltb, lt-ltb, le-ltb, eq-eqb}
+use Rattle.std.proofs.Common.{◌≡◌, ℕ, zero, suc, ◌+◌, ◌-◌, ◌<◌, ◌≤◌, ◌≢◌, List, [], ◌∷◌, ◌++◌, length, set, sym, refl, ap, ◌∙◌, subst, inl, inr, ⊎_elim, arith, cond, Option, Some, append-nil, ltb, lt-ltb, le-ltb, eq-eqb}
 use mathlib.Core.Logic.{dite}
 use mathlib.Core.Option.{none, some, some-injective, some-ne-none}
 use native.Mathlib.Decide.{dec_le}
@@ -10,10 +10,10 @@ use Rattle.bay_model.specs.Answers.{History}
 use Rattle.sv_base.specs.declared.config.Config.{Config}
 use Rattle.history_lock.specs.declared.view.View.{View}
 use Rattle.history_lock.specs.declared.view.Phase.TheVariants.{Idle}
-use Rattle.bay_histories.specs.Histories.{IsEarlier, by}
+use Rattle.bay_histories.specs.Histories.{IsEarlier, by, IsLegal}
 use Rattle.history_lock.specs.Views.{Stands, total, has, has_phase, busy, busy_phase, added, added_phase, inside, mine, aside_of, holds_number, left_of}
 use Rattle.history_lock.specs.Rule.{FollowsRule, Fits, FitsPhase, Table, whole, spent}
-use Rattle.history_lock.specs.Plays.{kept_ranges, cut_ranges, kept_part, cut_part, longer, joined, settled, compares, Seated}
+use Rattle.history_lock.specs.Plays.{kept_ranges, cut_ranges, kept_part, cut_part, longer, joined, settled, compares, Seated, witness, alone, Beside, hears}
 use Rattle.history_lock.proofs.Sums.{total-append, total-set, term_le}
 use Rattle.history_lock.proofs.Steps.{by-append, nothing_more, earlier_self, earlier_shorter, by_between}
 use Rattle.history_lock.proofs.Moves.{fits_set, Goes}
@@ -91,6 +91,7 @@ module _ {M : Type 0} (stands : Stands M) where
         (λ under. omega (arith, inside_within k 0 actors (omega arith) (omega arith)));
     given = λ k from. omega (arith, inside_above k 0 actors (omega arith));
     unmade = λ k from. refl;
+    legal = tt;
   }
     where
       some_is : (c d : Config) → Some d ≡ Some c → c ≡ d
@@ -162,6 +163,7 @@ module _ {M : Type 0} (stands : Stands M) where
         apart = λ x. omega (arith, moved (holds_number x), numbers x, k.apart x);
         given = λ x from. omega (arith, moved (holds_number x), numbers x, k.given x from);
         unmade = k.unmade;
+        legal = k.legal;
       }
 
   pub joins_kept : (actors : ℕ) (config : Config) (id : ℕ) (v : View) (other : ℕ) (w : View) → v.phase ≡ Idle → w.phase ≡ Idle → v.aside ≡ []
@@ -210,6 +212,7 @@ module _ {M : Type 0} (stands : Stands M) where
         apart = λ x. omega (arith, moved (holds_number x), empty x, k.apart x);
         given = λ x from. omega (arith, moved (holds_number x), empty x, k.given x from);
         unmade = k.unmade;
+        legal = k.legal;
       }
 
   pub compares_kept : (actors : ℕ) (config : Config) (n id : ℕ) (m : Seated M) → m.0.phase ≡ Idle
@@ -248,6 +251,7 @@ module _ {M : Type 0} (stands : Stands M) where
           apart = λ x. omega (arith, moved (holds_number x), numbers x, k.apart x);
           given = λ x from. omega (arith, moved (holds_number x), numbers x, k.given x from);
           unmade = k.unmade;
+          legal = k.legal;
         },
         (
           refl,
@@ -259,6 +263,93 @@ module _ {M : Type 0} (stands : Stands M) where
           },
           omega (arith, k.room, term_le left_of s.views id v at),
         ),
+      )
+
+  -- a new seat has seen the same, and has no number and no turn
+  pub witness_kept : (actors : ℕ) (config : Config) (id : ℕ) (v : View) → Splits (FollowsRule stands actors config) id v v (witness v)
+  witness_kept actors config id v s k at =
+      let r : View = witness v in
+      let moved : (f : View → ℕ) → total f (set s.views id v ++ r ∷ []) ≡ total f s.views + f r =
+      λ f. omega (arith, total-append f (set s.views id v) (r ∷ []), total-set f s.views id v v at) in
+      let me = k.seats id v at in
+      record {
+        ticket = k.ticket;
+        serving = k.serving;
+        log = k.log;
+        words = k.words;
+        waiting = λ t from below. omega (arith, moved (has t), k.waiting t from below);
+        served = λ t below. omega (arith, moved (has t), k.served t below);
+        undrawn = λ t from. omega (arith, moved (has t), k.undrawn t from);
+        room = omega (arith, moved left_of, k.room);
+        order = k.order;
+        few = omega (arith, moved added, k.few);
+        home = λ none_busy. k.home (omega (arith, moved busy));
+        seats = λ j u e. ⊎_elim (λ was. fits_set config k.serving k.log s.views id v (λ i y _ there. k.seats i y there) me j u was)
+            (λ (same : r ≡ u). subst (Fits config k.serving k.log) same
+            (record {
+              told_config = (λ c is. absurd (cc is));
+              front = me.front;
+              phase = tt;
+              own = λ x some_x. absurd (omega arith);
+              back = all_of k.log;
+              own_aside = λ x some_x. absurd (omega arith);
+            }))
+            (at_snoc (set s.views id v) r u j e);
+        apart = λ x. omega (arith, moved (holds_number x), k.apart x);
+        given = λ x from. omega (arith, moved (holds_number x), k.given x from);
+        unmade = k.unmade;
+        legal = k.legal;
+      }
+
+  -- what the seat has seen and what it was told begin one history, so one begins the other
+  beside_now : (serving : ℕ) (config : Config) (log : History) (v : View) → Fits config serving log v → Beside v v.told
+  beside_now serving config log v me = dite (dec_le (length v.seen) (length v.told))
+      (λ le. let r = earlier_shorter v.seen v.told log me.front me.back le in
+      inl (
+        r.0,
+        r.1,
+        (λ x some_x. nothing_more (by x v.seen) (by x r.0) (sym (by-append x r.0 v.seen) ∙ (ap (by x) r.1
+            ∙ (sym (by_between x v.seen v.told log r me.back (me.own x some_x)) ∙ me.own x some_x)))),
+      ))
+      (λ gt. inr (earlier_shorter v.told v.seen log me.back me.front (omega arith)))
+
+  pub hears_kept : (actors : ℕ) (config : Config) (n id : ℕ) (m : Seated M)
+      → Allows (FollowsRule stands actors config) n id m 0 (λ x. x) (hears (step n 0 0 0 none) m)
+  hears_kept actors config n id m s k long at _ =
+      let v : View = m.0 in
+      let w : View = alone v in
+      let moved : (f : View → ℕ) → total f (set s.views id w) + f v ≡ total f s.views + f w = λ f. total-set f s.views id v w at in
+      let me = k.seats id v at in
+      subst (Goes stands actors config s 0 (λ x. x) id m (hears (step n 0 0 0 none) m)) (sym k.words) (
+        w,
+        keeps,
+        tt,
+        record {
+          ticket = k.ticket;
+          serving = k.serving;
+          log = k.log;
+          words = refl;
+          waiting = λ t from below. omega (arith, moved (has t), k.waiting t from below);
+          served = λ t below. omega (arith, moved (has t), k.served t below);
+          undrawn = λ t from. omega (arith, moved (has t), k.undrawn t from);
+          room = omega (arith, moved left_of, k.room);
+          order = k.order;
+          few = omega (arith, moved added, k.few);
+          home = λ none_busy. k.home (omega (arith, moved busy));
+          seats = fits_set config k.serving k.log s.views id w (λ j u _ e. k.seats j u e) (record {
+            told_config = me.told_config;
+            front = me.front;
+            phase = me.phase;
+            own = me.own;
+            back = all_of k.log;
+            own_aside = λ x some_x. absurd (omega arith);
+          });
+          apart = λ x. omega (arith, moved (holds_number x), k.apart x);
+          given = λ x from. omega (arith, moved (holds_number x), k.given x from);
+          unmade = k.unmade;
+          legal = k.legal;
+        },
+        (refl, beside_now k.serving config k.log v me),
       )
 
   -- who has all numbers has seen the whole history
@@ -282,7 +373,7 @@ module _ {M : Type 0} (stands : Stands M) where
 
   pub closes : (actors : ℕ) (config : Config) (id : ℕ) (v : View) (ws : List ℕ) (xs : List (Option M)) → Final (Seen (FollowsRule stands actors config) id v) ws xs
       → (log : History) × (get_elem? ws 2 ≡ some (length log)) × IsEarlier v.seen log × (((x : ℕ) → x < actors → 0 < mine x v) → v.seen ≡ log)
-      × ((x : ℕ) → actors ≤ x → by x log ≡ [])
+      × ((x : ℕ) → actors ≤ x → by x log ≡ []) × IsLegal config log
   closes actors config id v ws xs f =
       let s = f.0 in
       let k = f.1.0 in
@@ -292,4 +383,19 @@ module _ {M : Type 0} (stands : Stands M) where
         (k.seats id v f.1.1).front,
         (λ all. all_seen actors config s k id v f.1.1 all),
         k.unmade,
+        k.legal,
       )
+
+-- a seat that took in a witness and forgot it is as it was
+pub heard : (v w : View) → v.aside ≡ [] → v.told ≡ [] → alone (joined v (witness w)) ≡ v
+heard v w none_aside none_told =
+    let turns : v.left + 0 ≡ v.left = omega arith in
+    λ i. record {
+      config = v.config;
+      ranges = v.ranges;
+      left = turns i;
+      phase = v.phase;
+      seen = v.seen;
+      aside = sym none_aside i;
+      told = sym none_told i;
+    }

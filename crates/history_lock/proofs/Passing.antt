@@ -17,11 +17,11 @@ use Rattle.atomic_table.specs.declared.shared.Seat.{Seat}
 use Rattle.history_lock.specs.declared.fault.TurnFault.TheVariants as faults
 use Rattle.history_lock.specs.declared.history.Pass.TheInside.{Inside}
 use Rattle.history_lock.specs.declared.view.View.{View}
-use Rattle.bay_histories.specs.Histories.{turn_of, by, IsRefused, answers_of, places_of}
+use Rattle.bay_histories.specs.Histories.{IsEarlier, turn_of, by, IsRefused, answers_of, places_of}
 use Rattle.history_lock.specs.Views.{total, inside, mine}
-use Rattle.history_lock.specs.Plays.{Seated, Others, joined, settled, Agree}
+use Rattle.history_lock.specs.Plays.{Seated, Others, joined, settled, Agree, Beside}
 use Rattle.history_lock.specs.Seats.{Took, at_rest, config_or, others_of, known}
-use Rattle.history_lock.specs.Passes.{Known, IsIn, InSome, HasNumber, OfOthers, Turned, later, own, is_process, Joined, told, placed}
+use Rattle.history_lock.specs.Passes.{Known, IsIn, InSome, HasNumber, OfOthers, Turned, later, own, is_process, Joined, told, placed, IsBehind}
 use Rattle.history_lock.proofs.Steps.{by-append, by_mine}
 use Rattle.history_lock.proofs.Parts.{inside_below, inside_within, inside_above}
 use Rattle.list_laws.proofs.Truths.{never-both}
@@ -57,6 +57,11 @@ module _ {M : Type 0} where
   not_ours i rest between others k has = others k
       (subst (λ (rs : List (ℕ × ℕ)). 0 < total (inside k) rs) (sym (ap (λ (m : Seated M). m.0.ranges) rest))
       (counted k ((i.first, i.count) ∷ others_of i.seat.me.0.ranges) has))
+
+  -- what another has seen, beside what the pass has
+  pub behind : (i o : Inside M) → IsRest i → Beside i.seat.me.0 o.seat.me.0.seen
+      → IsBehind (known_of i) (known_of o) ⊎ IsEarlier (known_of o).seen (known_of i).seen
+  behind i o rest beside = ⊎_elim (λ b. inl (b.0, b.1, not_ours i rest b.0 b.2)) (λ e. inr e) beside
 
   abbrev after : Inside M → Seat (Option M) View → ℕ → Inside M
   after i s n = record { seat = s; first = i.first; count = i.count; left = i.left - 1; seen = n }

@@ -1,5 +1,5 @@
 -- What a contract sees of a history and of a pass, and what the calls make of them.
-use Rattle.std.specs.Prelude.{ℕ, ◌≡◌, ◌+◌, ◌-◌, ◌<◌, ◌≤◌, ◌^◌, Bool, true, false, List, [], ◌∷◌, ◌++◌, length, Result, MatchResult, Ok, Err, ◌⊎◌}
+use Rattle.std.specs.Prelude.{ℕ, ◌≡◌, ◌≢◌, ◌+◌, ◌-◌, ◌<◌, ◌≤◌, ◌^◌, Bool, true, false, List, [], ◌∷◌, ◌++◌, length, Result, MatchResult, Ok, Err, ◌⊎◌}
 use Rattle.atomic_table.specs.Seated.{TableId}
 use Rattle.sv_base.specs.declared.config.Config.{Config}
 use Rattle.bay_model.specs.declared.answer.Answer.{Answer}
@@ -147,3 +147,23 @@ pub record Joined (p q r : Known) : Type 0 where
   pub that : IsEarlier q.seen r.seen
   pub ours : (k : ℕ) → HasNumber p k → by k r.seen ≡ by k p.seen
   pub theirs : (k : ℕ) → HasNumber q k → by k r.seen ≡ by k q.seen
+
+-- The pass q with the number k became another: it was split, made turns under another number, took in a pass, or was taken in.
+-- What it had seen of the steps of k is all that the other has seen of them.
+pub data Became (k : ℕ) (q : Known) : Known → Type 0 where
+  itself : HasNumber q k → Became k q q
+  was_split : (p r : Known) (numbers turns : ℕ) → Became k q p → (r ≡ kept_of p numbers turns) ⊎ (r ≡ new_of p numbers turns) → HasNumber r k → Became k q r
+  made_turn : (p r : Known) (moment : ℕ) (step : Step) (result : Result (Answer × ℕ) TurnFault) → Became k q p → p.first ≢ k → Turned p moment step result r
+      → Became k q r
+  took_in : (p o r : Known) → Became k q p → Joined p o r → Became k q r
+  was_taken_in : (p o r : Known) → Became k q o → Joined p o r → Became k q r
+
+-- ---- two passes that are compared
+
+-- q has seen what p has, and then steps of others
+abbrev pub IsBehind : Known → Known → Type 0
+IsBehind p q = (between : History) × (between ++ p.seen ≡ q.seen) × OfOthers p between
+
+-- what one of them has seen begins what the other has
+abbrev pub AreOfOne : Known → Known → Type 0
+AreOfOne p q = IsBehind p q ⊎ IsBehind q p

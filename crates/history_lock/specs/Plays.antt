@@ -1,5 +1,5 @@
 -- What each step tells: of the step, the seat before, the number found and the seat after. The machine stands for a history as its own definitions have it.
-use Rattle.std.specs.Prelude.{ℕ, ◌≡◌, ◌≢◌, ◌+◌, ◌-◌, ◌<◌, ◌≤◌, ◌^◌, List, [], ◌∷◌, ◌++◌, length, Option, Some, cond, nat_lt}
+use Rattle.std.specs.Prelude.{ℕ, ◌≡◌, ◌≢◌, ◌+◌, ◌-◌, ◌<◌, ◌≤◌, ◌^◌, ◌⊎◌, List, [], ◌∷◌, ◌++◌, length, Option, Some, None, cond, nat_lt}
 use Rattle.atomic_table.specs.Table.{Me, Step, rest}
 use Rattle.bay_model.specs.Answers.{Turn, History}
 use Rattle.sv_base.specs.declared.config.Config.{Config}
@@ -86,6 +86,21 @@ pub record Agree (v : View) (seen : History) : Type 0 where
 
 abbrev pub compares : {M : Type 0} → Play M
 compares st m r n = (n ≡ (settled m.0, m.1)) × Agree m.0 n.0.seen × (n.0.left ≤ 2 ^ 62)
+
+-- a seat that has seen the same, without numbers and turns
+abbrev pub witness : View → View
+witness v = view None [] 0 Idle v.seen [] []
+
+-- a seat forgets what another had seen
+abbrev pub alone : View → View
+alone v = view v.config v.ranges v.left v.phase v.seen [] []
+
+-- another has seen what the seat has, and then steps of others; or the seat has seen what the other has
+abbrev pub Beside : View → History → Type 0
+Beside v theirs = ((between : History) × (between ++ v.seen ≡ theirs) × Others v between) ⊎ IsEarlier theirs v.seen
+
+abbrev pub hears : {M : Type 0} → Play M
+hears st m r n = (n ≡ (alone m.0, m.1)) × Beside m.0 m.0.told
 
 -- a seat that has the machine reads how long the history is
 abbrev pub counts : {M : Type 0} → Play M

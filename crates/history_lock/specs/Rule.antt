@@ -8,7 +8,7 @@ use Rattle.sv_base.specs.declared.config.Config.{Config}
 use Rattle.history_lock.specs.declared.view.View.{View}
 use Rattle.history_lock.specs.declared.view.Phase.{Phase}
 use Rattle.history_lock.specs.declared.view.Phase.TheVariants.{Idle, Drawn, Busy, Added}
-use Rattle.bay_histories.specs.Histories.{IsEarlier, by}
+use Rattle.bay_histories.specs.Histories.{IsEarlier, by, IsLegal}
 use Rattle.history_lock.specs.Views.{Stands, view, total, has, busy, added, mine, aside_of, holds_number, left_of}
 
 -- the seat that is served has seen the whole history
@@ -53,6 +53,8 @@ pub record FollowsRule {M : Type 0} (stands : Stands M) (actors : ℕ) (config :
   pub apart : (k : ℕ) → total (holds_number k) s.views ≤ 1
   pub given : (k : ℕ) → actors ≤ k → total (holds_number k) s.views ≡ 0
   pub unmade : (k : ℕ) → actors ≤ k → by k log ≡ []
+  -- each step of the history was accepted after those before it
+  pub legal : IsLegal config log
 
 -- the first seat
 abbrev pub whole : ℕ → Config → View

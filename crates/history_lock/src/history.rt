@@ -3,9 +3,9 @@
 ghost use Rattle.std.specs.Prelude.{◌≡◌, ◌-◌, ◌+◌, ◌<◌, ◌≤◌, List, ◌∷◌, [], ◌++◌, length, IfOk, ℕ, cond, nat_lt, true};
 ghost use Rattle.object_model.specs.Fits.{fits as fits_in};
 ghost use Rattle.bay_model.specs.Answers.{History as TheHistory};
-ghost use Rattle.bay_histories.specs.Histories.{IsEarlier, by, IsShuffle};
+ghost use Rattle.bay_histories.specs.Histories.{IsEarlier, by, IsLegal, IsShuffle};
 ghost use Rattle.history_lock.specs.Rule.{whole};
-ghost use Rattle.history_lock.specs.Passes.{HasNumber, IsSamePass, Joined, first_of, kept_of, new_of};
+ghost use Rattle.history_lock.specs.Passes.{Known, IsSamePass, Joined, Became, AreOfOne, first_of, kept_of, new_of};
 ghost use Rattle.history_lock.specs.Passes.{OwnGrew, ToldGrew, PlacedGrew, Turned, IsLeanTurn, IsProcessTurn};
 
 use crate::fault::TurnFault;
@@ -209,12 +209,23 @@ impl<M: StateMachine> History<M> {
         pass.seen = larger(pass.seen, seen);
     }
 
-    /// How many steps were accepted. A pass with the numbers of all actors has seen them all.
+    /// Compares two passes: one of them has seen what the other has, and then steps of others alone, whatever turns both have made
+    /// since they were split. It changes neither, makes no turn and takes no memory: a proof calls it for what it tells.
+    pub fn compare(&self, pass: &mut Pass<M>, other: &mut Pass<M>)
+        requires { (pass.old.table ≡ self.now.table) × (other.old.table ≡ self.now.table) }
+        ensures same { (pass.new ≡ pass.old) × (other.new ≡ other.old) }
+        ensures seen { AreOfOne pass.old other.old }
+    {
+        self.lock.hear(&mut pass.seat, &mut other.seat);
+        self.lock.hear(&mut other.seat, &mut pass.seat);
+    }
+
+    /// How many steps were accepted. Where passes of all numbers became this one, it has seen them all.
     pub fn close(self, pass: Pass<M>) -> u64
         requires { pass.table ≡ self.table }
-        ensures seen { (log : TheHistory) × (result ≡ length log) × IsEarlier pass.seen log }
-        ensures whole { ((k : ℕ) → k < self.actors → HasNumber pass k)
-            → (result ≡ length pass.seen) × IsShuffle self.actors (λ k. by k pass.seen) pass.seen }
+        ensures seen { (log : TheHistory) × (result ≡ length log) × IsEarlier pass.seen log × IsLegal self.config log }
+        ensures whole { (parts : ℕ → Known) → ((k : ℕ) → k < self.actors → Became k (parts k) pass)
+            → (result ≡ length pass.seen) × IsShuffle self.actors (λ k. by k (parts k).seen) pass.seen }
     {
         let History {
             lock,

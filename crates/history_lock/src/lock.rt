@@ -5,14 +5,16 @@ ghost use Rattle.sv_base.specs.declared.config.Config.{Config};
 ghost use Rattle.object_model.specs.Fits.{fits as fits_in};
 ghost use Rattle.bay_model.specs.Answers.{History};
 ghost use Rattle.bay_histories.specs.Turns.{KeepsLean};
-ghost use Rattle.bay_histories.specs.Histories.{IsEarlier, by, turn_of};
+ghost use Rattle.bay_histories.specs.Histories.{IsEarlier, by, turn_of, IsLegal};
 ghost use Rattle.history_lock.specs.Views.{mine, busy};
 ghost use Rattle.history_lock.specs.Rule.{whole};
-ghost use Rattle.history_lock.specs.Plays.{Got, drawn, extended, resting, kept_part, cut_part, joined, settled, Agree};
+ghost use Rattle.history_lock.specs.Plays.{Got, drawn, extended, resting, kept_part, cut_part, joined, settled, Agree, Beside};
 ghost use Rattle.history_lock.specs.Seats.{Took, config_or, step_result};
 ghost use Rattle.history_lock.specs.declared.view.Phase.TheVariants.{Idle, Drawn, Busy, Added};
 
-use crate::rule::{Announced, Append, Both, Compare, Count, Cut, Draw, Law, Look, PassOn, Portion};
+use crate::rule::{
+    Announced, Append, Both, Compare, Count, Cut, Draw, Hear, Law, Look, PassOn, Portion, Witness,
+};
 use crate::view::{About, View};
 use atomic_table::{Refused, Table};
 use bay_histories::{StateMachine, StepFault};
@@ -95,12 +97,26 @@ impl<M: StateMachine> Lock<M> {
         self.table.shared.load::<Compare>(seat, 0);
     }
 
+    /// Holds what a seat has seen beside what another has, and leaves both as they are.
+    pub(crate) fn hear(&self, seat: &mut Seat<M>, other: &mut Seat<M>)
+        requires table { (seat.old.table_id ≡ self.now.table.shared.table_id) × (other.old.table_id ≡ self.now.table.shared.table_id) }
+        requires idle { seat.old.me.0.phase ≡ Idle }
+        requires alone { (seat.old.me.0.aside ≡ []) × (seat.old.me.0.told ≡ []) }
+        ensures table { (seat.new.table_id ≡ seat.old.table_id) × (other.new.table_id ≡ other.old.table_id) }
+        ensures same { (seat.new.me ≡ seat.old.me) × (other.new.me ≡ other.old.me) }
+        ensures beside { Beside seat.old.me.0 other.old.me.0.seen }
+    {
+        let witness = self.table.shared.split_seat::<Witness>(other);
+        self.table.shared.join_seat::<Both>(seat, witness);
+        self.table.shared.load::<Hear>(seat, 0);
+    }
+
     /// The length of the history, which a seat with all numbers has seen whole.
     pub(crate) fn close(self, seat: Seat<M>) -> u64
         requires table { seat.table_id ≡ self.table.shared.table_id }
         ensures { (log : History) × (result ≡ length log) × IsEarlier seat.me.0.seen log
             × (((k : ℕ) → k < self.table.shared.key.actors → 0 < mine k seat.me.0) → seat.me.0.seen ≡ log)
-            × ((k : ℕ) → self.table.shared.key.actors ≤ k → by k log ≡ []) }
+            × ((k : ℕ) → self.table.shared.key.actors ≤ k → by k log ≡ []) × IsLegal self.table.shared.key.model log }
     {
         let Lock { table } = self;
         let mut closed = table.close_with(seat);
@@ -149,6 +165,7 @@ impl<M: StateMachine> Lock<M> {
         requires table { seat.old.table_id ≡ self.now.table.shared.table_id }
         requires turn { (t : ℕ) × (seat.old.me.0.phase ≡ Busy t) }
         requires mine { 0 < mine E.turn.actor seat.old.me.0 }
+        requires legal { (config : Config) × (seat.old.me.0.config ≡ Some config) × IsLegal config (E.turn ∷ seat.old.me.0.seen) }
         ensures table { seat.new.table_id ≡ seat.old.table_id }
         ensures seat { (t : ℕ) → seat.old.me.0.phase ≡ Busy t → seat.new.me ≡ (extended seat.old.me.0 t E.turn, seat.old.me.1) }
         ensures place { result ≡ length seat.old.me.0.seen }

@@ -120,6 +120,26 @@ impl<M> Play<Option<M>, View> for Compare {
     ghost then = { compares };
 }
 
+/// A new seat has seen what the seat has, and knows nothing else.
+pub struct Witness;
+
+impl Split<View> for Witness {
+    ghost use Rattle.history_lock.specs.Plays.{witness};
+
+    ghost left = { λ v. v };
+
+    ghost right = { λ v. witness v };
+}
+
+/// A seat that took in a witness holds what it has seen beside what the witness has.
+pub struct Hear;
+
+impl<M> Play<Option<M>, View> for Hear {
+    ghost use Rattle.history_lock.specs.Plays.{hears};
+
+    ghost then = { hears };
+}
+
 /// A seat that has the machine reads how long the history is.
 pub struct Count;
 

@@ -1,13 +1,14 @@
 -- Passes that were dealt, played and joined again.
-use Rattle.std.proofs.Common.{◌≡◌, ◌≢◌, ℕ, zero, suc, ◌+◌, ◌<◌, ◌≤◌, eq-eqb, ne_eqb, cond, List, [], ◌∷◌, ◌++◌, length, take, map, get_or, inl, inr, ⊎_elim, sym, refl, ap, subst, ◌∙◌, arith, append_assoc}
+use Rattle.std.proofs.Common.{◌≡◌, ◌≢◌, ℕ, zero, suc, ◌+◌, ◌<◌, ◌≤◌, eq-eqb, ne_eqb, cond, List, [], ◌∷◌, ◌++◌, length, take, map, get_or, inl, ⊎_elim, sym, refl, ap, subst, ◌∙◌, arith, append_assoc}
 use Rattle.std.specs.List.{All}
 use mathlib.Core.Logic.{dite}
 use native.Mathlib.Decide.{ℕ_discrete, dec_lt}
 use Rattle.sv_base.specs.declared.config.Config.{Config}
 use Rattle.bay_model.specs.Answers.{History}
 use Rattle.bay_histories.specs.Histories.{IsEarlier, by, IsLegal}
-use Rattle.history_lock.specs.Passes.{Site, Known, IsIn, InSome, HasNumber, Joined}
+use Rattle.history_lock.specs.Passes.{Site, Known, HasNumber, Joined}
 use Rattle.history_lock.proofs.Steps.{by-append, nothing_more}
+use Rattle.history_lock.proofs.Joining.{has_ours, has_theirs}
 use Rattle.actor_scripts.specs.declared.script.Script.{Script}
 use Rattle.actor_scripts.specs.declared.part.Part.{Part}
 use Rattle.script_threads.specs.declared.job.Played.{Played}
@@ -35,32 +36,14 @@ dealt_low h low high (x ∷ xs) dealt = omega (arith, dealt.0.1, dealt.1, dealt_
 
 -- ---- joining
 
-in_left : (k : ℕ) (xs ys : List (ℕ × ℕ)) → InSome k xs → InSome k (xs ++ ys)
-in_left k [] ys h = absurd h
-in_left k (x ∷ xs) ys h = ⊎_elim (λ (i : IsIn k x). inl i) (λ (i : InSome k xs). inr (in_left k xs ys i)) h
-
-in_right : (k : ℕ) (xs ys : List (ℕ × ℕ)) → InSome k ys → InSome k (xs ++ ys)
-in_right k [] ys h = h
-in_right k (x ∷ xs) ys h = inr (in_right k xs ys h)
-
-ranges_of : (p q r : Known) → Joined p q r → (r.first, r.count) ∷ r.joined ≡ (p.first, p.count) ∷ (p.joined ++ (q.first, q.count) ∷ q.joined)
-ranges_of p q r j = λ i. (j.place.2 i, j.place.3 i) ∷ j.ranges i
-
 pub gathers_self : (p : Known) → Gathers p p
 gathers_self p = record { earlier = ([], refl); numbers = λ k has. (has, refl) }
 
 pub gathers_ours : (p q r : Known) → Joined p q r → Gathers p r
-gathers_ours p q r j = record {
-  earlier = j.this;
-  numbers = λ k has.
-      (subst (InSome k) (sym (ranges_of p q r j)) (⊎_elim (λ (i : IsIn k (p.first, p.count)). inl i) (λ (i : InSome k p.joined). inr (in_left k p.joined ((q.first, q.count) ∷ q.joined) i)) has), j.ours k has);
-}
+gathers_ours p q r j = record { earlier = j.this; numbers = λ k has. (has_ours k p q r j has, j.ours k has) }
 
 pub gathers_theirs : (p q r : Known) → Joined p q r → Gathers q r
-gathers_theirs p q r j = record {
-  earlier = j.that;
-  numbers = λ k has. (subst (InSome k) (sym (ranges_of p q r j)) (inr (in_right k p.joined ((q.first, q.count) ∷ q.joined) has)), j.theirs k has);
-}
+gathers_theirs p q r j = record { earlier = j.that; numbers = λ k has. (has_theirs k p q r j has, j.theirs k has) }
 
 earlier_more : (xs ys zs : History) → IsEarlier xs ys → IsEarlier ys zs → IsEarlier xs zs
 earlier_more xs ys zs a b = (b.0 ++ a.0, append_assoc b.0 a.0 xs ∙ (ap (λ (l : History). b.0 ++ l) a.1 ∙ b.1))

@@ -1,6 +1,6 @@
 -- why `racing::run` answers as its contract says
 use Rattle.std.proofs.Common.{◌≡◌, sym, refl, subst, arith}
-use Rattle.history_lock.specs.Passes.{Site, first_of}
+use Rattle.history_lock.specs.Passes.{Site, first_of, itself}
 use Rattle.script_threads.specs.Dealing.{IsRest}
 use Rattle.script_threads.proofs.racing.run.Goals as goal
 
@@ -13,5 +13,5 @@ play_scripts-requires-clause-pass g c κs within = subst (IsRest c.args.history 
 pub returns : goal.returns
 returns g c =
     let n = c.in-Ok.ensures.numbers in
-    let w = c.close-total.ensures.whole (λ k near. n.1 k (omega (arith, near, c.requires.actors))) in
+    let w = c.close-total.ensures.whole (λ _. c.play_scripts.new.pass) (λ k near. itself (n.1 k (omega (arith, near, c.requires.actors)))) in
     (c.play_scripts.new.pass.seen, w.0, c.in-Ok.ensures.raced (λ k far. w.1.1 k (omega (arith, far, c.requires.actors))))

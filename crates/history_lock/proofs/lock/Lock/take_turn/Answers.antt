@@ -2,7 +2,7 @@
 use Rattle.std.proofs.Common.{rules, ap, sym, ◌∙◌, ◌∷◌, [], ◌++◌, ◌<◌, ◌^◌, length, Some, None, ℕ, List, Option, subst}
 use Rattle.atomic_table.specs.Table.{rest}
 use Rattle.bay_model.specs.Answers.{Turn, History}
-use Rattle.bay_histories.specs.Histories.{turn_of}
+use Rattle.bay_histories.specs.Histories.{turn_of, IsLegal}
 use Rattle.history_lock.specs.Views.{busy}
 use Rattle.history_lock.specs.Plays.{Seated, resting}
 use Rattle.history_lock.specs.Seats.{config_or}
@@ -59,6 +59,21 @@ pass_on-requires-clause-machine g c κs within =
       ap (λ (n : Seated _). n.0.config) now
           ∙ c.requires.config,
       subst (λ (h : History). g.M.StateMachine.stands c.step-result.new.self (config_or c.args.seat.now.me.0.config) h) (sym (ap (λ (n : Seated _). n.0.seen) now)) after.1,
+    )
+
+pub append-place-requires-clause-legal : goal.append-place-requires-clause-legal
+append-place-requires-clause-legal g c κs within =
+    let t : Turn = turn_of c.args.moment c.args.actor.0 c.args.step.now in
+    let got = c.wait_turn.ensures.got in
+    let s = stands_now g.M.StateMachine.stands c.args.seat.now.me c.draw-ticket.new.seat.me c.wait_turn.new.seat.me c.draw-ticket.result (config_or c.args.seat.now.me.0.config) c.unwrap-machine.result
+    c.exchange.result c.draw-ticket.ensures.seat c.requires.config got c.exchange.ensures.2 c.unwrap-machine.ensures in
+    let held = back_in g.M.StateMachine.stands c.args.seat.now.me c.draw-ticket.new.seat.me c.wait_turn.new.seat.me c.exchange.new.seat.me c.exchange-2.new.seat.me
+    c.draw-ticket.result c.step-result.new.self c.draw-ticket.ensures.seat c.requires.idle.1 got c.exchange.ensures.3 c.exchange-2.ensures.3 in
+    let after = c.in-Ok.ensures.does (config_or c.args.seat.now.me.0.config) (got.1 ++ c.args.seat.now.me.0.seen) s in (
+      config_or c.args.seat.now.me.0.config,
+      ap (λ (n : Seated _). n.0.config) held
+          ∙ c.requires.config,
+      subst (λ (h : History). IsLegal (config_or c.args.seat.now.me.0.config) (t ∷ h)) (sym (ap (λ (n : Seated _). n.0.seen) held)) (c.step-result.ensures.legal _ _ after.1),
     )
 
 pub returns-in-Ok-clause-turn : goal.returns-in-Ok-clause-turn
