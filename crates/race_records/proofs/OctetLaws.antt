@@ -1,11 +1,9 @@
 -- The octets of the record of a rehearsal are lines, and the record that these are.
-use Rattle.std.proofs.Common.{◌≡◌, ◌≤◌, ◌<◌, ◌==◌, ℕ, zero, suc, Bool, true, false, not, List, [], ◌∷◌, ◌++◌, length, refl, sym, ap, subst, ◌∙◌, arith, inl, inr, append_assoc}
-use Rattle.std.specs.Prelude.{Option, None, Some, Ok, Err, codes, nat_lt, nat_le, ◌||◌, slice_get, if◌then◌else◌}
+use Rattle.std.proofs.Common.{◌≡◌, ◌≤◌, ◌<◌, ◌==◌, ℕ, zero, suc, Bool, true, false, not, List, [], ◌∷◌, ◌++◌, length, refl, sym, ap, subst, ◌∙◌, arith, append_assoc}
+use Rattle.std.specs.Prelude.{Option, None, Some, Ok, Err, codes, nat_lt, ◌||◌, slice_get, if◌then◌else◌}
 use Rattle.std.specs.List.{slice_split, list_all}
 use Rattle.std.specs.Option.{option_map, option_and_then}
-use Rattle.std.proofs.lemmas.Bool.{and_parts, leb-true}
-use Rattle.std.proofs.lemmas.Bool.Decides.{eqb_tells}
-use Rattle.std.proofs.lemmas.List.Elements.{All-nil, All-cons, All-from_recursion}
+use Rattle.std.proofs.lemmas.List.Elements.{All-from_recursion}
 use Rattle.std.proofs.lemmas.List.Concat.{flat_map-append}
 use Rattle.std.proofs.lemmas.List.Splits.{slice_split_at, length-slice_split}
 use Rattle.sv_base.specs.declared.config.Config.{Config}
@@ -35,6 +33,7 @@ use Rattle.script_plans.specs.Sound.{IsTold, AreTold, IsScriptOrNone, IsText, Is
 use Rattle.script_plans.specs.declared.line.StepLine.{StepLine}
 use Rattle.race_records.specs.Merged.{lines_in, book_of, line_of, at_lines, lines_behind, moment_behind, merged, record_with}
 use Rattle.race_records.specs.ReadBack.{MergedAreReadBack}
+use Rattle.script_plans.proofs.LineLaws.{NoTen, no-newline}
 use Rattle.race_records.proofs.Listed.{book-at, onto-append}
 use Rattle.race_records.proofs.BackLaws.{at-line, turns-back, text-back}
 
@@ -56,18 +55,6 @@ lines-more (l ∷ ls) more none =
     ∙ (line-more l (octets_of ls ++ more) none.0 ∙ ap (λ (rest : List (List ℕ)). l ∷ rest) (lines-more ls more none.1))
 
 -- ---- a line that is read has no newline
-
-abbrev NoTen : ℕ → Type 0
-NoTen b = (b == 10) ≡ false
-
-not-ten : (x : ℕ) → is_printable x ≡ true → NoTen x
-not-ten x e =
-    let low : 32 ≤ x = leb-true 32 x (and_parts (nat_le 32 x) (nat_le x 126) e).0 in
-    elim (eqb_tells x 10) [ inl t ↦ absurd (omega (arith, t.1, low)) | inr t ↦ t.0 ]
-
-no-newline : (octets : List ℕ) → list_all is_printable octets ≡ true → NoNewline octets
-no-newline [] e = All-nil NoTen
-no-newline (x ∷ xs) e = let both = and_parts (is_printable x) (list_all is_printable xs) e in All-cons NoTen x xs (not-ten x both.0) (no-newline xs both.1)
 
 read-clean : (text : List ℕ) (line : RecLine) → line_at text ≡ Ok line → NoNewline text
 unfolding line_at

@@ -1,3 +1,6 @@
 -- The laws of a rehearsal's input.
 pub mod TellLaws
+pub mod LineLaws
 pub mod SoundLaws
+pub mod WholeLaws
+pub mod PlanLaws

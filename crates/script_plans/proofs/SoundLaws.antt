@@ -55,15 +55,13 @@ use Rattle.script_plans.specs.declared.line.StepLine.{StepLine}
 use Rattle.script_plans.specs.declared.form.ScriptForm.{ScriptForm}
 use Rattle.script_plans.specs.declared.form.ScriptForm.TheVariants as forms
 use Rattle.script_plans.specs.declared.opened.Opened.{Opened}
-use Rattle.script_plans.proofs.TellLaws.{same, association-made, process-made, passed-in, process-passed, fit-behind, passed-at}
+use Rattle.script_plans.proofs.LineLaws.{NoTen}
+use Rattle.script_plans.proofs.TellLaws.{association-made, process-made, passed-in, process-passed, fit-behind, passed-at}
 use Rattle.record_outcome.specs.declared.status.Status.TheVariants as statuses
 
 -- ---- lists
 
 -- the pieces between newlines have none
-abbrev NoTen : ℕ → Type 0
-NoTen b = (b == 10) ≡ false
-
 clean-onto : (x : ℕ) (ps : List (List ℕ)) → (x == 10) ≡ false → Each NoNewline ps → Each NoNewline (onto_first x ps)
 clean-onto x [] other e = (All-cons NoTen x [] other (All-nil NoTen), tt)
 clean-onto x (p ∷ ps) other e = (All-cons NoTen x p other e.0, e.1)
@@ -435,14 +433,14 @@ inside-good n p o text plan good seated = by (script_line_at text) refl where
 
 -- ---- the lines one after another
 
-lines-good : (n : ℕ) (place : Place) (line : List ℕ) → NoNewline line → Good n place → GoodMove (suc n) (lines_at (suc n) place line)
+pub lines-good : (n : ℕ) (place : Place) (line : List ℕ) → NoNewline line → Good n place → GoodMove (suc n) (lines_at (suc n) place line)
 lines-good n opening line none good = opening-good (suc n) (suc n) line
 lines-good n (configuring before text) line none good = configuring-good (suc n) before text line none good
 lines-good n (between p) line none good = between-good (suc n) (suc n) p line (more-plan n (suc n) p (omega arith) good)
 lines-good n (inside p o) line none good = inside-good n p o line good.0 good.1 good.2
 
 -- the line passes the limit of lines, or it is one that may be read
-below : (number : ℕ) (place : Place) (line : List ℕ) (m : Move) → inputs.line_at number place line ≡ m → (m ≡ stops (passed 1 number place)) ⊎ ((number ≤ most_lines) × (lines_at number place line ≡ m))
+pub below : (number : ℕ) (place : Place) (line : List ℕ) (m : Move) → inputs.line_at number place line ≡ m → (m ≡ stops (passed 1 number place)) ⊎ ((number ≤ most_lines) × (lines_at number place line ≡ m))
 unfolding inputs.line_at
 below number place line m e = elim (leb_tells (suc most_lines) number) [
   | inl t ↦ inl (sym e ∙ ap (λ b. if b then stops (passed 1 number place) else lines_at number place line) t.0)

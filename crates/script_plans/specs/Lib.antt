@@ -6,5 +6,7 @@ pub mod Moves
 pub mod Scripting
 pub mod Openings
 pub mod Inputs
+-- what a whole input is
+pub mod Grammar
 -- what holds of every plan
 pub mod Sound

@@ -11,7 +11,7 @@ mod script;
 mod laws;
 
 pub use form::ScriptForm;
-pub use laws::plans_are_sound;
+pub use laws::{inputs_come_to_their_plans, plans_are_sound};
 pub use line::StepLine;
 pub use opened::Opened;
 pub use script::Script;

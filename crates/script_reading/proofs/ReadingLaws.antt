@@ -1,14 +1,16 @@
 -- Lines that were read one after another.
 use Rattle.std.proofs.Common.{◌≡◌, ℕ, suc, Bool, List, ◌∷◌, ◌++◌, length, take, refl, sym, ap, subst, ◌∙◌, inl, inr, arith}
-use Rattle.std.specs.Prelude.{min, Result, nat_lt}
+use Rattle.std.specs.Prelude.{min, Result, Ok, Err, nat_lt}
 use Rattle.std.proofs.Math.Nat.{min_comm, min-eq_left}
 use Rattle.std.proofs.lemmas.Bool.Decides.{leb_tells}
 use Rattle.std.proofs.lemmas.List.{take_all}
 use Rattle.record_outcome.specs.Records.{limit, NoNewline, pieces, has_begun}
 use Rattle.record_outcome.specs.declared.status.Status.{Status}
 use Rattle.script_plans.specs.Moves.{opening, Move, goes, stops, ends}
-use Rattle.script_plans.specs.Inputs.{line_at, Outcome, refused, ended, moved, run, outcome}
-use Rattle.script_reading.specs.Readings.{place_of, Moved, Reads, LinesRead, EndsBetween, Concludes}
+use Rattle.script_plans.specs.Inputs.{line_at, Outcome, refused, ready, ended, moved, run, outcome}
+use Rattle.script_reading.specs.Readings.{plan_seen, place_of, Moved, Reads, HasPlan, LinesRead, EndsBetween, Concludes}
+use Rattle.script_plans.proofs.WholeLaws.{comes}
+use Rattle.script_plans.proofs.PlanLaws.{plans-are}
 use Rattle.script_reading.specs.declared.plan.Plan.{Plan as Held}
 use Rattle.script_reading.specs.declared.next.Next.{Next}
 use Rattle.script_reading.specs.declared.next.Next.TheVariants as nexts
@@ -70,3 +72,8 @@ concludes r next rest octets old new long begun first read is-long is-begun made
   told nexts.On read made = subst (Reads r) (sym (read.1 long ∙ (run-rest long new.lines (place_of new.stage) rest read.0 ∙ ap (λ b. refused (ended long b (suc new.lines) (place_of new.stage))) (sym is-begun)))) made
   told (nexts.Stop status) read made = subst (Reads r) (sym (read long)) made
   told nexts.End read made = subst (Reads r) (sym (read.2 long)) (made read.0 read.1)
+
+-- what is read of the octets is what they are by the grammar
+pub read-plan : (r : Result Held Status) (octets : List ℕ) → Reads r (outcome octets) → HasPlan r octets
+read-plan (Ok x) octets reads = plans-are octets (plan_seen x) reads
+read-plan (Err status) octets reads = λ p is. let never : ready p ≡ refused status = sym (comes octets p is) ∙ reads in absurd cc

@@ -1,5 +1,5 @@
 -- The lines of an input, one after another.
-use Rattle.std.proofs.Common.{◌≡◌, ◌≤◌, ◌<◌, ℕ, suc, Bool, true, false, List, [], ◌∷◌, ◌++◌, length, refl, sym, ap, ◌∙◌, arith}
+use Rattle.std.proofs.Common.{◌≡◌, ◌<◌, ℕ, suc, Bool, true, false, List, ◌∷◌, ◌++◌, refl, sym, ap, ◌∙◌}
 use Rattle.std.specs.Prelude.{◌==◌, ◌&&◌, nat_lt, if◌then◌else◌}
 use Rattle.std.proofs.lemmas.Bool.{lt-ltb}
 use Rattle.std.proofs.lemmas.List.Splits.{slice_split_at, slice_split_none}
@@ -8,12 +8,7 @@ use Rattle.record_outcome.specs.declared.status.Status.{Status}
 use Rattle.record_outcome.proofs.LineLaws.{pieces-some}
 use Rattle.script_plans.specs.Moves.{Place, stops}
 use Rattle.script_plans.specs.Inputs.{passed, missing, unended, ended, lines_at, line_at, refused, moved, run}
-use Rattle.list_laws.proofs.Places.{not-below}
-
-run-on : (long : Bool) (count : ℕ) (place : Place) (line : List ℕ) (more : List (List ℕ)) → 0 < length more
-    → run long count place (line ∷ more) ≡ moved (line_at (suc count) place line) (λ to. run long (suc count) to more)
-run-on long count place line [] some = absurd (omega (arith, some))
-run-on long count place line (next ∷ more) some = refl
+use Rattle.script_plans.proofs.LineLaws.{run-on}
 
 -- a line, and what follows it
 pub run-line : (long : Bool) (count : ℕ) (place : Place) (line more : List ℕ) → NoNewline line
@@ -25,14 +20,10 @@ run-line long count place line more none =
 pub run-rest : (long : Bool) (count : ℕ) (place : Place) (rest : List ℕ) → NoNewline rest → run long count place (pieces rest) ≡ refused (ended long (has_begun rest) (suc count) place)
 run-rest long count place rest none = ap (run long count place) (slice_split_none (λ b. b == 10) rest none)
 
--- among the lines that may be read, and behind them
+-- behind the lines that may be read
 pub over-lines : (status : Status) (number : ℕ) (place : Place) (line : List ℕ) → most_lines < number → status ≡ passed 1 number place → line_at number place line ≡ stops status
 unfolding line_at
 over-lines status number place line lt told = ap (λ b. if b then stops (passed 1 number place) else lines_at number place line) (lt-ltb most_lines number lt) ∙ ap stops (sym told)
-
-pub below-lines : (number : ℕ) (place : Place) (line : List ℕ) → number ≤ most_lines → line_at number place line ≡ lines_at number place line
-unfolding line_at
-below-lines number place line le = ap (λ b. if b then stops (passed 1 number place) else lines_at number place line) (not-below most_lines number le)
 
 -- behind the last newline
 pub ended-long : (status : Status) (long begun : Bool) (number : ℕ) (place : Place) → long ≡ true → status ≡ passed 3 number place → status ≡ ended long begun number place

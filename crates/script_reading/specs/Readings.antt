@@ -21,6 +21,7 @@ use Rattle.script_plans.specs.Moves.{Place, opening, configuring, between, insid
 use Rattle.script_plans.specs.Scripting.{most_scripts, actor_for, counted, opened}
 use Rattle.script_plans.specs.Openings.{started}
 use Rattle.script_plans.specs.Inputs.{Outcome, refused, ready, ended, run}
+use Rattle.script_plans.specs.Grammar.{IsRehearsal, IsNoRehearsal}
 use Rattle.script_reading.specs.declared.plan.Plan.{Plan as Held}
 use Rattle.script_plans.specs.declared.opened.Opened.{Opened}
 use Rattle.script_reading.specs.declared.next.Next.{Next}
@@ -115,6 +116,11 @@ IsSoundStart (starteds.Refused status) = IsRefusal status
 abbrev pub Reads : Result Held Status → Outcome → Type 0
 Reads (Ok x) o = o ≡ ready (plan_seen x)
 Reads (Err status) o = o ≡ refused status
+
+-- the octets are a rehearsal of the plan, or, where they are refused, of none
+abbrev pub HasPlan : Result Held Status → List ℕ → Type 0
+HasPlan (Ok x) octets = IsRehearsal octets (plan_seen x)
+HasPlan (Err status) octets = IsNoRehearsal octets
 
 -- of the octets the lines before the rest are read, or up to one with which the reading stops or ends
 abbrev pub LinesRead : Next → List ℕ → Session → Session → List ℕ → Type 0

@@ -4,7 +4,7 @@ ghost use Rattle.std.specs.Prelude.{◌≡◌, ◌≤◌, ◌<◌, ◌+◌, ◌^
 ghost use Rattle.script_plans.specs.Inputs.{outcome};
 ghost use Rattle.script_plans.specs.Plans.{Plan as ThePlan};
 ghost use Rattle.script_plans.specs.Moves.{between};
-ghost use Rattle.script_reading.specs.Readings.{place_of, plan_seen, Reads, IsRefused, IsBetween, IsDecided, IsWell, LinesRead, EndsBetween, Concludes};
+ghost use Rattle.script_reading.specs.Readings.{place_of, plan_seen, Reads, HasPlan, IsRefused, IsBetween, IsDecided, IsWell, LinesRead, EndsBetween, Concludes};
 
 use crate::next::Next;
 use crate::plan::Plan;
@@ -86,6 +86,7 @@ fn conclude(
 pub fn read_rehearsal(alloc: Global, octets: &[u8]) -> Result<Result<Plan, Status>, AllocError>
     requires { length octets.now < 2 ^ 61 }
     ensures reads { IfOk result (λ r. Reads r (outcome octets.now)) }
+    ensures plan { IfOk result (λ r. HasPlan r octets.now) }
     ensures refused { IfOk result IsRefused }
 {
     let long = octets.len() > MOST_OCTETS;

@@ -2,3 +2,4 @@
 pub mod PlanLaws
 pub mod EndingLaws
 pub mod DeliveryLaws
+pub mod GrammarLaws

@@ -7,6 +7,7 @@ use Rattle.sv_io.specs.Causes.{GrowsByFront}
 use Rattle.record_outcome.specs.declared.status.Status.{Status}
 use Rattle.record_outcome.specs.declared.status.Status.TheVariants as statuses
 use Rattle.script_plans.specs.Plans.{Plan}
+use Rattle.script_plans.specs.Grammar.{IsRehearsal, IsNoRehearsal}
 use Rattle.script_plans.specs.Inputs.{Outcome, refused, ready}
 use Rattle.race_records.specs.Bounds.{lowest_beyond, IsBeyondOf, IsWithoutOpers}
 use Rattle.race_settling.specs.Settled.{Goes, MeetsFull}
@@ -36,6 +37,16 @@ Rehearses o (statuses.Limit which line) old new =
 Rehearses o statuses.Memory old new = Appends old new []
 Rehearses o statuses.ReadFault old new = Appends old new []
 Rehearses o statuses.Words old new = ⊥
+
+-- What these octets are by the grammar: with status Ok a rehearsal, and what the sink took is of its configuration and its scripts; with
+-- Limit 2 a rehearsal whose queue was full at that line, or none; with another refusal none.
+abbrev pub IsOfRehearsal : List ℕ → Status → Option (List ℕ) → Option (List ℕ) → Type 0
+IsOfRehearsal b statuses.Ok old new = (p : Plan) × (octets : List ℕ) × IsRehearsal b p × Goes p octets × Appends old new octets
+IsOfRehearsal b statuses.WriteFault old new = (p : Plan) × (octets : List ℕ) × IsRehearsal b p × Goes p octets × GrowsByFront old new octets
+IsOfRehearsal b (statuses.Record line kind) old new = IsNoRehearsal b
+IsOfRehearsal b (statuses.Config line kind) old new = IsNoRehearsal b
+IsOfRehearsal b (statuses.Limit which line) old new = IsNoRehearsal b ⊎ ((p : Plan) × IsRehearsal b p × (which ≡ 2) × MeetsFull p line)
+IsOfRehearsal b _ old new = Unit {0}
 
 -- a status that doesn't speak of the words and of the source
 abbrev pub IsListed : Status → Type 0

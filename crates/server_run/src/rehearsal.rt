@@ -10,7 +10,7 @@ ghost use Rattle.script_plans.specs.Sound.{IsSound};
 ghost use Rattle.race_records.specs.Merged.{book_seen};
 ghost use Rattle.race_settling.specs.Races.{IsOfPlan};
 ghost use Rattle.race_settling.specs.Settled.{Performs};
-ghost use Rattle.server_run.specs.Rehearsals.{most, PerformsInput, Rehearses, IsListed};
+ghost use Rattle.server_run.specs.Rehearsals.{most, PerformsInput, Rehearses, IsOfRehearsal, IsListed};
 
 use actor_scripts::Actor;
 use bay_races::race_over;
@@ -122,6 +122,9 @@ pub fn rehearse_gated<R: Threads + Wait + Sync, S: Source, K: Sink, G: Gate>(
     // Every status and what the sink took, by what the input comes to.
     ensures rehearses { IfSome (S.left source.old) (λ b. Rehearses (outcome (take most b)) result (K.taken sink.old) (K.taken sink.new)) }
 
+    // What the octets are by the grammar.
+    ensures plan { IfSome (S.left source.old) (λ b. IsOfRehearsal b result (K.taken sink.old) (K.taken sink.new)) }
+
     // At most one octet more is taken from the source than an input may have.
     ensures taken { TakesAtMost 67108865 (S.left source.old) (S.left source.new) }
 
@@ -158,6 +161,9 @@ pub fn rehearse<R: Threads + Wait + Sync, S: Source, K: Sink>(
 ) -> Status
     // Every status and what the sink took, by what the input comes to.
     ensures rehearses { IfSome (S.left source.old) (λ b. Rehearses (outcome (take most b)) result (K.taken sink.old) (K.taken sink.new)) }
+
+    // What the octets are by the grammar.
+    ensures plan { IfSome (S.left source.old) (λ b. IsOfRehearsal b result (K.taken sink.old) (K.taken sink.new)) }
 
     // At most one octet more is taken from the source than an input may have.
     ensures taken { TakesAtMost 67108865 (S.left source.old) (S.left source.new) }

@@ -3,7 +3,8 @@ use Rattle.std.proofs.Common.{◌≡◌, ◌+◌, suc, arith, sym, ap, subst, �
 use Rattle.std.proofs.lemmas.Result.{IfOk-weaker}
 use Rattle.script_plans.specs.Inputs.{passed, lines_at}
 use Rattle.script_reading.specs.Readings.{place_of, Moved}
-use Rattle.script_reading.proofs.RunLaws.{over-lines, below-lines}
+use Rattle.script_plans.proofs.LineLaws.{below-lines}
+use Rattle.script_reading.proofs.RunLaws.{over-lines}
 use Rattle.script_reading.proofs.session.Session.read.Goals as goal
 
 pub returns-then-number-gt-MOST_LINES-clause-moves :
