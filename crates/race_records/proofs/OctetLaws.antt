@@ -33,7 +33,7 @@ use Rattle.script_plans.specs.Sound.{IsTold, AreTold, IsScriptOrNone, IsText, Is
 use Rattle.script_plans.specs.declared.line.StepLine.{StepLine}
 use Rattle.race_records.specs.Merged.{lines_in, book_of, line_of, at_lines, lines_behind, moment_behind, merged, record_with}
 use Rattle.race_records.specs.ReadBack.{MergedAreReadBack}
-use Rattle.script_plans.proofs.LineLaws.{NoTen, no-newline}
+use Rattle.record_outcome.proofs.LineLaws.{NoTen, no-newline}
 use Rattle.race_records.proofs.Listed.{book-at, onto-append}
 use Rattle.race_records.proofs.BackLaws.{at-line, turns-back, text-back}
 

@@ -13,10 +13,12 @@ pub mod openings;
 // the lines of a configuration
 pub mod configuring;
 
-// laws: of the history of a record, of what is answered to it, and of whole records
+// laws: of the history of a record, of what is answered to it, of whole records, and of lines that are written
 mod histories;
 pub mod laws;
 mod whole;
+mod written;
 
 pub use histories::{record_fronts, records_resume};
 pub use whole::whole_records_are_read_to_their_end;
+pub use written::written_lines_are_read_back;

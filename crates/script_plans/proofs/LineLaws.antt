@@ -1,10 +1,7 @@
 -- The lines of an input: how the octets are divided into them, and which ones are read.
-use Rattle.std.proofs.Common.{◌≡◌, ◌≤◌, ◌<◌, ◌==◌, ◌||◌, ℕ, suc, Bool, true, false, not, List, [], ◌∷◌, ◌++◌, length, refl, ap, ◌∙◌, arith, inl, inr, append_assoc}
-use Rattle.std.specs.Prelude.{Ok, Err, nat_lt, nat_le, if◌then◌else◌}
+use Rattle.std.proofs.Common.{◌≡◌, ◌≤◌, ◌<◌, ◌==◌, ◌||◌, ℕ, suc, Bool, true, false, not, List, [], ◌∷◌, ◌++◌, length, refl, ap, ◌∙◌, arith, append_assoc}
+use Rattle.std.specs.Prelude.{Ok, Err, nat_lt, if◌then◌else◌}
 use Rattle.std.specs.List.{list_all}
-use Rattle.std.proofs.lemmas.Bool.{and_parts, leb-true}
-use Rattle.std.proofs.lemmas.Bool.Decides.{eqb_tells}
-use Rattle.std.proofs.lemmas.List.Elements.{All-nil, All-cons}
 use Rattle.std.proofs.lemmas.List.Splits.{slice_split_at}
 use Rattle.text_words.specs.Octets.{is_printable, is_skipped}
 use Rattle.text_words.specs.Words.{words_of}
@@ -14,6 +11,7 @@ use Rattle.run_record.specs.declared.line.RecLine.TheVariants as lines
 use Rattle.record_outcome.specs.Histories.{octets_of}
 use Rattle.record_outcome.specs.Records.{most_lines, NoNewline, pieces}
 use Rattle.record_outcome.specs.Grammar.{Each}
+use Rattle.record_outcome.proofs.LineLaws.{no-newline}
 use Rattle.script_lines.specs.Lines.{beside, script_line_at}
 use Rattle.script_lines.specs.declared.line.ScriptLine.{ScriptLine}
 use Rattle.script_plans.specs.Moves.{Place, stops}
@@ -28,19 +26,6 @@ line-first line ls more = append_assoc (line ++ 10 ∷ []) (octets_of ls) more �
 pub line-pieces : (ls : List (List ℕ)) (more : List ℕ) → Each NoNewline ls → pieces (octets_of ls ++ more) ≡ ls ++ pieces more
 line-pieces [] more clean = refl
 line-pieces (l ∷ ls) more clean = ap pieces (line-first l ls more) ∙ (slice_split_at (λ b. b == 10) l 10 (octets_of ls ++ more) clean.0 refl ∙ ap (λ (ps : List (List ℕ)). l ∷ ps) (line-pieces ls more clean.1))
-
--- what is printed is no newline
-abbrev pub NoTen : ℕ → Type 0
-NoTen b = (b == 10) ≡ false
-
-not-ten : (x : ℕ) → is_printable x ≡ true → NoTen x
-not-ten x e =
-    let low : 32 ≤ x = leb-true 32 x (and_parts (nat_le 32 x) (nat_le x 126) e).0 in
-    elim (eqb_tells x 10) [ inl t ↦ absurd (omega (arith, t.1, low)) | inr t ↦ t.0 ]
-
-pub no-newline : (octets : List ℕ) → list_all is_printable octets ≡ true → NoNewline octets
-no-newline [] e = All-nil NoTen
-no-newline (x ∷ xs) e = let both = and_parts (is_printable x) (list_all is_printable xs) e in All-cons NoTen x xs (not-ten x both.0) (no-newline xs both.1)
 
 -- a line that is read has none
 pub read-clean : (text : List ℕ) (v : ScriptLine) → script_line_at text ≡ Ok v → NoNewline text

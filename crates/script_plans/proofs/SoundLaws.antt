@@ -55,7 +55,7 @@ use Rattle.script_plans.specs.declared.line.StepLine.{StepLine}
 use Rattle.script_plans.specs.declared.form.ScriptForm.{ScriptForm}
 use Rattle.script_plans.specs.declared.form.ScriptForm.TheVariants as forms
 use Rattle.script_plans.specs.declared.opened.Opened.{Opened}
-use Rattle.script_plans.proofs.LineLaws.{NoTen}
+use Rattle.record_outcome.proofs.LineLaws.{NoTen}
 use Rattle.script_plans.proofs.TellLaws.{association-made, process-made, passed-in, process-passed, fit-behind, passed-at}
 use Rattle.record_outcome.specs.declared.status.Status.TheVariants as statuses
 

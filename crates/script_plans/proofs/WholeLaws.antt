@@ -47,8 +47,8 @@ use Rattle.script_plans.specs.declared.form.ScriptForm.{ScriptForm}
 use Rattle.script_plans.specs.declared.form.ScriptForm.TheVariants as forms
 use Rattle.script_plans.specs.declared.line.StepLine.{StepLine}
 use Rattle.script_plans.specs.declared.opened.Opened.{Opened}
-use Rattle.record_outcome.proofs.LineLaws.{pieces-some}
-use Rattle.script_plans.proofs.LineLaws.{line-pieces, no-newline, read-clean, run-on, below-lines}
+use Rattle.record_outcome.proofs.LineLaws.{no-newline, pieces-some}
+use Rattle.script_plans.proofs.LineLaws.{line-pieces, read-clean, run-on, below-lines}
 use Rattle.script_plans.proofs.TellLaws.{passed-in, process-stays, process-passed}
 use Rattle.record_outcome.specs.declared.status.Status.TheVariants as statuses
 use Rattle.list_laws.proofs.Appended.{take-front}
