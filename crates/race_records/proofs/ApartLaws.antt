@@ -9,7 +9,7 @@ use Rattle.bay_model.specs.Named.{configured_model}
 use Rattle.bay_config.specs.Servable.{IsMember, IsServedSet, IsServable}
 use Rattle.bay_replies.specs.Plain.{SelectsNothing}
 use Rattle.bay_replies.proofs.GivenLaws.{plain-at}
-use Rattle.queue_laws.specs.Opers.{opers_at, opers_among, AreApart}
+use Rattle.history_laws.specs.Opers.{opers_at, opers_among, AreApart}
 
 no-oper : (c : Model) (r : Role) → SelectsNothing r → opers_at c r ≡ 0
 no-oper c (single l) h = refl

@@ -33,8 +33,8 @@ use Rattle.actor_scripts.specs.Raced.{actors}
 use Rattle.actor_scripts.specs.Scripts.{turns_by, made_from, made_of}
 use Rattle.actor_scripts.specs.declared.made.Made.{Made}
 use Rattle.actor_scripts.specs.declared.script.TimedStep.{TimedStep}
-use Rattle.queue_laws.specs.Written.{actor_of, as_written, history_written}
-use Rattle.queue_laws.proofs.WrittenLaws.{answer_written}
+use Rattle.history_laws.specs.Written.{actor_of, as_written, history_written}
+use Rattle.history_laws.proofs.WrittenLaws.{answer_written}
 use Rattle.script_plans.specs.Forms.{form_in}
 use Rattle.script_plans.specs.Plans as plans
 use Rattle.script_plans.specs.Plans.{Script, Plan, script_of, script_turns}

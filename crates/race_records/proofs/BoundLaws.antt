@@ -10,8 +10,8 @@ use Rattle.bay_model.specs.Answers.{History}
 use Rattle.bay_histories.specs.Histories as histories
 use Rattle.actor_scripts.specs.Scripts.{turns_onto}
 use Rattle.actor_scripts.specs.declared.script.TimedStep.{TimedStep}
-use Rattle.queue_laws.specs.Opers.{opers_by}
-use Rattle.queue_laws.specs.Queues.{waits_behind, waits, opers_behind, opers}
+use Rattle.history_laws.specs.Opers.{opers_by}
+use Rattle.history_laws.specs.Queues.{waits_behind, waits, opers_behind, opers}
 use Rattle.script_plans.specs.Plans.{Script, Plan, script_of}
 use Rattle.script_plans.specs.declared.line.StepLine.{StepLine}
 use Rattle.race_records.specs.Verdicts.{lesser}

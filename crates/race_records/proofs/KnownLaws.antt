@@ -25,9 +25,9 @@ use Rattle.actor_scripts.specs.Scripts.{turns_onto, turns_by}
 use Rattle.actor_scripts.specs.declared.part.Part.{Part}
 use Rattle.actor_scripts.specs.declared.script.Script.{Script as Played}
 use Rattle.actor_scripts.specs.declared.script.TimedStep.{TimedStep}
-use Rattle.queue_laws.specs.Opers.{AreApart}
-use Rattle.queue_laws.specs.Queues.{open_behind, is_open, waits, opers, IsItsOwn, AreTheirOwn, IsInOrder, own_fault}
-use Rattle.queue_laws.proofs.QueueLaws.{waits_by_steps, accepted_by_steps}
+use Rattle.history_laws.specs.Opers.{AreApart}
+use Rattle.history_laws.specs.Queues.{open_behind, is_open, waits, opers, IsItsOwn, AreTheirOwn, IsInOrder, own_fault}
+use Rattle.history_laws.proofs.QueueLaws.{waits_by_steps, accepted_by_steps}
 use Rattle.text_configs.proofs.Served.{served}
 use Rattle.script_plans.specs.Plans.{Script, Plan, script_of}
 use Rattle.script_plans.specs.Sound.{IsTold, AreTold, IsScriptOrNone, IsSound}

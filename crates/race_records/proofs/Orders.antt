@@ -35,8 +35,8 @@ use Rattle.script_lines.specs.Parties.{may_have}
 use Rattle.script_lines.specs.declared.party.Party.{Party}
 use Rattle.script_lines.specs.declared.party.Party.TheVariants as parties
 use Rattle.actor_scripts.specs.declared.script.TimedStep.{TimedStep}
-use Rattle.queue_laws.specs.Written.{actor_of}
-use Rattle.queue_laws.specs.Queues.{open_behind, IsItsOwn, IsInOrder}
+use Rattle.history_laws.specs.Written.{actor_of}
+use Rattle.history_laws.specs.Queues.{open_behind, IsItsOwn, IsInOrder}
 use Rattle.script_plans.specs.Forms.{form_in}
 use Rattle.script_plans.specs.Sound.{IsActor, IsTold}
 use Rattle.script_plans.specs.declared.line.StepLine.{StepLine}

@@ -8,9 +8,9 @@ use Rattle.bay_model.specs.Model.{Model}
 use Rattle.bay_model.specs.Answers.{Turn, History}
 use Rattle.bay_model.specs.Acceptance.{IsHistory}
 use Rattle.bay_histories.specs.Histories.{IsEarlier, by}
-use Rattle.queue_laws.specs.Opers.{opers_of, AreApart}
-use Rattle.queue_laws.specs.Queues.{open_behind, is_open, waits_behind, waits, opers_behind, opers, IsItsOwn, AreTheirOwn}
-use Rattle.queue_laws.proofs.QueueLaws.{asked_with_room}
+use Rattle.history_laws.specs.Opers.{opers_of, AreApart}
+use Rattle.history_laws.specs.Queues.{open_behind, is_open, waits_behind, waits, opers_behind, opers, IsItsOwn, AreTheirOwn}
+use Rattle.history_laws.proofs.QueueLaws.{asked_with_room}
 use Rattle.race_records.specs.Bounds.{is_beyond}
 
 -- a step of another association

@@ -6,8 +6,8 @@ use Rattle.bay_model.specs.declared.step.Step.{Step}
 use Rattle.bay_model.specs.declared.step.Step.TheVariants as steps
 use Rattle.bay_model.specs.Model.{Model}
 use Rattle.bay_model.specs.Named.{configured_model}
-use Rattle.queue_laws.specs.Opers.{opers_by}
-use Rattle.queue_laws.specs.Queues.{waits_behind, opers_behind}
+use Rattle.history_laws.specs.Opers.{opers_by}
+use Rattle.history_laws.specs.Queues.{waits_behind, opers_behind}
 use Rattle.actor_scripts.specs.declared.script.TimedStep.{TimedStep}
 use Rattle.script_plans.specs.Plans.{Script, Plan, script_of}
 use Rattle.script_plans.specs.declared.line.StepLine.{StepLine}

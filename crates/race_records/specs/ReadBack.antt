@@ -8,7 +8,7 @@ use Rattle.record_outcome.specs.Texts.{turns_in, record_text}
 use Rattle.actor_scripts.specs.Raced.{actors}
 use Rattle.script_plans.specs.Plans.{Plan, turns_of}
 use Rattle.script_plans.specs.Sound.{IsSound}
-use Rattle.queue_laws.specs.Written.{history_written}
+use Rattle.history_laws.specs.Written.{history_written}
 use Rattle.race_records.specs.Merged.{record_of, answers_to}
 
 pub record IsReadBack (p : Plan) (h : History) : Type 0 where

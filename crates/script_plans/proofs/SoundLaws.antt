@@ -42,7 +42,7 @@ use Rattle.script_lines.proofs.LineLaws.{line-told}
 use Rattle.actor_scripts.specs.Stops.{AreFit}
 use Rattle.actor_scripts.specs.declared.script.TimedStep.{TimedStep}
 use Rattle.actor_scripts.proofs.Lists.{map_last}
-use Rattle.queue_laws.specs.Written.{actor_of}
+use Rattle.history_laws.specs.Written.{actor_of}
 use Rattle.script_plans.specs.Forms.{form_in, form_passed, IsFit}
 use Rattle.script_plans.specs.Plans.{Script, Plan, script_of, with_script}
 use Rattle.script_plans.specs.Moves.{Place, opening, configuring, between, inside, Move, goes, stops, ends}

@@ -34,7 +34,7 @@ use Rattle.record_steps.specs.declared.heard.Wired.TheVariants.{Dialling, On}
 use Rattle.script_lines.specs.Parties.{is_no_stream, is_of, is_of_process, may_have}
 use Rattle.script_lines.specs.declared.party.Party.{Party}
 use Rattle.script_lines.specs.declared.party.Party.TheVariants as parties
-use Rattle.queue_laws.specs.Written.{actor_of}
+use Rattle.history_laws.specs.Written.{actor_of}
 use Rattle.script_plans.specs.Forms.{form_in, opened_so, form_passed, IsFit}
 use Rattle.script_plans.specs.declared.form.ScriptForm.{ScriptForm}
 use Rattle.list_laws.proofs.Places.{same-number}

@@ -15,7 +15,7 @@ use Rattle.script_lines.specs.declared.party.Party.{Party}
 use Rattle.script_lines.specs.declared.party.Party.TheVariants as parties
 use Rattle.actor_scripts.specs.Stops.{AreFit}
 use Rattle.actor_scripts.specs.declared.script.TimedStep.{TimedStep}
-use Rattle.queue_laws.specs.Written.{actor_of}
+use Rattle.history_laws.specs.Written.{actor_of}
 use Rattle.script_plans.specs.Forms.{form_in, IsFit}
 use Rattle.script_plans.specs.Plans.{Script, Plan, script_of}
 use Rattle.script_plans.specs.declared.form.ScriptForm.{ScriptForm}

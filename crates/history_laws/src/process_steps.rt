@@ -4,7 +4,7 @@ ghost use Rattle.std.specs.Prelude.{◌≡◌};
 ghost use Rattle.bay_model.specs.Model.{Model};
 ghost use Rattle.bay_model.specs.Answers.{Turn, History, points, answer};
 ghost use Rattle.bay_model.specs.Acceptance.{fault, IsHistory};
-ghost use Rattle.queue_laws.specs.Written.{as_written, history_written};
+ghost use Rattle.history_laws.specs.Written.{as_written, history_written};
 
 /// A history whose steps of the process are all written as actor 0's has the same points, each step is answered and refused alike,
 /// and is accepted where it was.

@@ -20,12 +20,12 @@ use Rattle.bay_model.specs.Takes.{taken, given_by, given_report}
 use Rattle.bay_model.specs.Answers.{Turn, History, points, deed_at, singles_after}
 use Rattle.bay_model.specs.Acceptance.{Fault, IsHistory, IsOpen, QueueFull, fault_at, if_open, if_yours}
 use Rattle.bay_model.proofs.EveryPoint.{point}
-use Rattle.queue_laws.specs.Opers.{opers_of, AreApart}
-use Rattle.queue_laws.specs.Queues.{open_behind, is_open, waits_behind, waits, opers_behind, opers, IsItsOwn, AreTheirOwn, IsInOrder, own_fault, OpenBySteps, WaitsBySteps, AcceptedBySteps, AskedWithRoom}
-use Rattle.queue_laws.proofs.SingleLaws.{IsStill, IsOne, opers_single, outcome, component_}
-use Rattle.queue_laws.proofs.SetLaws.{opers_singles, named-only}
-use Rattle.queue_laws.proofs.OwedLaws.{endings_in, endings-extended, all-endings, less, owed, done-level, still-owed, still-waiting, singles-waiting, singles-owe}
-use Rattle.queue_laws.proofs.ShortLaws.{replies-extended, replies-told}
+use Rattle.history_laws.specs.Opers.{opers_of, AreApart}
+use Rattle.history_laws.specs.Queues.{open_behind, is_open, waits_behind, waits, opers_behind, opers, IsItsOwn, AreTheirOwn, IsInOrder, own_fault, OpenBySteps, WaitsBySteps, AcceptedBySteps, AskedWithRoom}
+use Rattle.history_laws.proofs.SingleLaws.{IsStill, IsOne, opers_single, outcome, component_}
+use Rattle.history_laws.proofs.SetLaws.{opers_singles, named-only}
+use Rattle.history_laws.proofs.OwedLaws.{endings_in, endings-extended, all-endings, less, owed, done-level, still-owed, still-waiting, singles-waiting, singles-owe}
+use Rattle.history_laws.proofs.ShortLaws.{replies-extended, replies-told}
 use Rattle.bay_model.proofs.AskedLaws.{open-if, no-tests}
 
 -- ---- whether it is open

@@ -7,7 +7,7 @@ use Rattle.bay_model.specs.Model.{Model}
 use Rattle.bay_model.specs.Points.{Past}
 use Rattle.bay_model.specs.Answers.{Turn, History, turned, points, answer_at, answer}
 use Rattle.bay_model.specs.Acceptance.{fault_at, fault, IsHistory}
-use Rattle.queue_laws.specs.Written.{actor_of, as_written, history_written}
+use Rattle.history_laws.specs.Written.{actor_of, as_written, history_written}
 
 abbrev turn_of : ℕ → ℕ → Step → Turn
 turn_of m k s = record { moment = m; actor = k; step = s }

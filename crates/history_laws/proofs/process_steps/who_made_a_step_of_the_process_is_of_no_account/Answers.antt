@@ -1,6 +1,6 @@
 -- why `laws::who_made_a_step_of_the_process_is_of_no_account` answers as its contract says
-use Rattle.queue_laws.proofs.WrittenLaws.{points_written, answer_written, fault_written, legal_written}
-use Rattle.queue_laws.proofs.process_steps.who_made_a_step_of_the_process_is_of_no_account.Goals as goal
+use Rattle.history_laws.proofs.WrittenLaws.{points_written, answer_written, fault_written, legal_written}
+use Rattle.history_laws.proofs.process_steps.who_made_a_step_of_the_process_is_of_no_account.Goals as goal
 
 pub returns-clause-points : goal.returns-clause-points
 returns-clause-points c = points_written

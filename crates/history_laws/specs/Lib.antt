@@ -5,3 +5,5 @@ pub mod Opers
 pub mod Queues
 -- the history that a record of a race has
 pub mod Written
+-- what comes of the write of an EntryID
+pub mod EntryIds

@@ -31,8 +31,8 @@ use Rattle.bay_model.specs.Services.{set_found, set_name, written_set, singles_o
 use Rattle.bay_model.specs.Reports.{Offer, first_offer}
 use Rattle.bay_model.specs.Takes.{taken, given_by, given_report}
 use Rattle.bay_model.specs.Answers.{Turn, History, points, deed_at, singles_after}
-use Rattle.queue_laws.specs.Opers.{opers_to, opers_in, opers_of, opers_among, AreApart}
-use Rattle.queue_laws.proofs.SingleLaws.{IsStill, IsOne, opers_single, outcome, component_}
+use Rattle.history_laws.specs.Opers.{opers_to, opers_in, opers_of, opers_among, AreApart}
+use Rattle.history_laws.proofs.SingleLaws.{IsStill, IsOne, opers_single, outcome, component_}
 
 abbrev pub opers_singles : Model → List Single → ℕ
 opers_singles c [] = 0

@@ -1,7 +1,7 @@
 -- why `laws::what_waits_was_put_and_not_given` answers as its contract says
-use Rattle.queue_laws.proofs.RestLaws.{waits_are_the_rest, given_are_few, takes_are_in_order}
-use Rattle.queue_laws.proofs.ShortLaws.{queues_are_short}
-use Rattle.queue_laws.proofs.waiting.what_waits_was_put_and_not_given.Goals as goal
+use Rattle.history_laws.proofs.RestLaws.{waits_are_the_rest, given_are_few, takes_are_in_order}
+use Rattle.history_laws.proofs.ShortLaws.{queues_are_short}
+use Rattle.history_laws.proofs.waiting.what_waits_was_put_and_not_given.Goals as goal
 
 pub returns-clause-waits : goal.returns-clause-waits
 returns-clause-waits c = waits_are_the_rest

@@ -10,7 +10,7 @@ use Rattle.bay_model.specs.Associations.{ends}
 use Rattle.bay_model.specs.Waiting.{waiting_replies}
 use Rattle.bay_model.specs.Answers.{Turn, History, points}
 use Rattle.bay_model.specs.Acceptance.{Fault, QueueFull, fault, IsHistory}
-use Rattle.queue_laws.specs.Opers.{opers_by, AreApart}
+use Rattle.history_laws.specs.Opers.{opers_by, AreApart}
 
 -- association a is open behind a step, where it was or wasn't before
 abbrev pub open_behind : ℕ → Step → Bool → Bool

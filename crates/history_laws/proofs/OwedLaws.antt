@@ -12,9 +12,9 @@ use Rattle.bay_model.specs.Commands.{is_test}
 use Rattle.bay_model.specs.Waiting.{Waiting, reply, ending, waiting, extended, is_underway, ends_for, tests, tests_of, replies_in}
 use Rattle.bay_model.specs.Singles.{Single, arrival, after_single, after_singles}
 use Rattle.bay_model.proofs.EveryPoint.{point}
-use Rattle.queue_laws.proofs.SingleLaws.{IsStill, IsOne, one_if, opers_single, outcome}
-use Rattle.queue_laws.proofs.SetLaws.{opers_singles}
-use Rattle.queue_laws.proofs.ShortLaws.{replies-told}
+use Rattle.history_laws.proofs.SingleLaws.{IsStill, IsOne, one_if, opers_single, outcome}
+use Rattle.history_laws.proofs.SetLaws.{opers_singles}
+use Rattle.history_laws.proofs.ShortLaws.{replies-told}
 
 -- ---- how many replies and terminations there are
 

@@ -19,7 +19,7 @@ use Rattle.bay_model.specs.Takes.{taken, given_by, given_report, deed_of_waiting
 use Rattle.bay_model.specs.Answers.{Turn, History, points, deed_at, singles_after, output_for, answer}
 use Rattle.bay_model.proofs.Deeds.{OfSingles, outcome, component_}
 use Rattle.bay_model.proofs.EveryPoint.{Every, point}
-use Rattle.queue_laws.specs.WaitsFor.{given_to, take_of}
+use Rattle.history_laws.specs.WaitsFor.{given_to, take_of}
 use Rattle.list_laws.proofs.Truths.{never}
 
 -- ---- queues

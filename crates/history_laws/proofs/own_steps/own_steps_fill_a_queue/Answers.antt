@@ -1,6 +1,6 @@
 -- why `laws::own_steps_fill_a_queue` answers as its contract says
-use Rattle.queue_laws.proofs.QueueLaws.{open_by_steps, waits_by_steps, accepted_by_steps, asked_with_room}
-use Rattle.queue_laws.proofs.own_steps.own_steps_fill_a_queue.Goals as goal
+use Rattle.history_laws.proofs.QueueLaws.{open_by_steps, waits_by_steps, accepted_by_steps, asked_with_room}
+use Rattle.history_laws.proofs.own_steps.own_steps_fill_a_queue.Goals as goal
 
 pub returns-clause-opened : goal.returns-clause-opened
 returns-clause-opened c = open_by_steps

@@ -22,7 +22,7 @@ use Rattle.bay_model.specs.Outcomes.{gave, deed_of, first_code, refused}
 use Rattle.bay_model.specs.Reads.{read_role, read_tree, outcome_of_read}
 use Rattle.bay_model.specs.Writes.{is_written, contradicts, is_of_nothing, act_refusals, edit_refusals, confirm_refusals, attribute_refusals, holds_edit, write_role, write_part, write_attribute, write_component, outcome_of_call}
 use Rattle.bay_model.specs.Singles.{Single, reads, writes, fails, outcome_of}
-use Rattle.queue_laws.specs.Opers.{opers_at}
+use Rattle.history_laws.specs.Opers.{opers_at}
 
 -- it opens and loses nothing, runs and ends no command, puts no reply and gives none
 abbrev pub IsStill : Deed → Type 0
