@@ -2,9 +2,11 @@
 //! identifiers of the tables are the standards'. The functions run nothing.
 #![tactic(auto)]
 
-// how short a PDU is
+// how short a PDU is, and replies that are cut
+mod cut;
 mod minimal;
 
+pub use cut::cut_replies_are_answered_alike;
 pub use minimal::written_pdus_are_minimal;
 
 // the numbers of tags and codes
