@@ -5,6 +5,7 @@ use Rattle.std.specs.List.{All}
 use Rattle.std.proofs.lemmas.Bool.{eqb-true}
 use Rattle.sv_base.specs.declared.config.Config.{Config}
 use Rattle.bay_model.specs.Answers.{Turn, History}
+use Rattle.bay_histories.specs.Rules.{Rules}
 use Rattle.bay_histories.specs.Histories.{turn_of, by}
 use Rattle.actor_scripts.specs.declared.script.TimedStep.{TimedStep}
 use Rattle.actor_scripts.specs.declared.part.Reply.{Reply}
@@ -43,38 +44,38 @@ get_pushed (z ∷ zs) y x (suc i) e = on (get_pushed zs y x i e)
 
 -- ---- the steps of one actor
 
-pub length_made : (c : Config) (h : History) → length (made_of c h) ≡ length h
-length_made c [] = refl
-length_made c (t ∷ h) = omega (arith, length_made c h, length-append (made_of c h) (made_from c h t ∷ []))
+pub length_made : (rules : Rules) (c : Config) (h : History) → length (made_of rules c h) ≡ length h
+length_made rules c [] = refl
+length_made rules c (t ∷ h) = omega (arith, length_made rules c h, length-append (made_of rules c h) (made_from rules c h t ∷ []))
 
 counted : (b : Bool) (t : Turn) (h : History) (rs : List Reply) (r : Reply) → length rs ≡ length h → length (cond b (rs ++ r ∷ []) rs) ≡ length (cond b (t ∷ h) h)
 counted true t h rs r e = omega (arith, e, length-append rs (r ∷ []))
 counted false t h rs r e = e
 
 -- there is a reply to each step of an actor
-pub as_many : (c : Config) (k : ℕ) (h : History) → length (replies_of c k h) ≡ length (by k h)
-as_many c k [] = refl
-as_many c k (t ∷ h) = counted (eqb t.actor k) t (by k h) (replies_of c k h) (reply_to c h t) (as_many c k h)
+pub as_many : (rules : Rules) (c : Config) (k : ℕ) (h : History) → length (replies_of rules c k h) ≡ length (by k h)
+as_many rules c k [] = refl
+as_many rules c k (t ∷ h) = counted (eqb t.actor k) t (by k h) (replies_of rules c k h) (reply_to rules c h t) (as_many rules c k h)
 
-module _ (c : Config) (k : ℕ) (t : Turn) (h : History) (before : (j : ℕ) (r : Reply) → slice_get (replies_of c k h) j ≡ Some r → slice_get (made_of c h) r.place ≡ Some (made k j r)) where
-  newest : (j : ℕ) (r : Reply) → t.actor ≡ k → j ≡ length (replies_of c k h) → r ≡ reply_to c h t → slice_get (made_of c h ++ made_from c h t ∷ []) r.place ≡ Some (made k j r)
+module _ (rules : Rules) (c : Config) (k : ℕ) (t : Turn) (h : History) (before : (j : ℕ) (r : Reply) → slice_get (replies_of rules c k h) j ≡ Some r → slice_get (made_of rules c h) r.place ≡ Some (made k j r)) where
+  newest : (j : ℕ) (r : Reply) → t.actor ≡ k → j ≡ length (replies_of rules c k h) → r ≡ reply_to rules c h t → slice_get (made_of rules c h ++ made_from rules c h t ∷ []) r.place ≡ Some (made k j r)
   newest j r mine n is =
-      get_last (made_of c h) (made_from c h t) r.place (ap (λ (r : Reply). r.place) is ∙ sym (length_made c h))
-      ∙ (λ i. Some (record { actor = mine i; index = (ap (λ (m : ℕ). length (by m h)) mine ∙ sym (as_many c k h) ∙ sym n) i; answer = (sym (ap (λ (r : Reply). r.answer) is)) i }))
+      get_last (made_of rules c h) (made_from rules c h t) r.place (ap (λ (r : Reply). r.place) is ∙ sym (length_made rules c h))
+      ∙ (λ i. Some (record { actor = mine i; index = (ap (λ (m : ℕ). length (by m h)) mine ∙ sym (as_many rules c k h) ∙ sym n) i; answer = (sym (ap (λ (r : Reply). r.answer) is)) i }))
 
-  of_pushed : (j : ℕ) (r : Reply) → t.actor ≡ k → Pushed (replies_of c k h) (reply_to c h t) r j → slice_get (made_of c h ++ made_from c h t ∷ []) r.place ≡ Some (made k j r)
-  of_pushed j r mine (old g) = get_left (made_of c h) (made_from c h t) (made k j r) r.place (before j r g)
+  of_pushed : (j : ℕ) (r : Reply) → t.actor ≡ k → Pushed (replies_of rules c k h) (reply_to rules c h t) r j → slice_get (made_of rules c h ++ made_from rules c h t ∷ []) r.place ≡ Some (made k j r)
+  of_pushed j r mine (old g) = get_left (made_of rules c h) (made_from rules c h t) (made k j r) r.place (before j r g)
   of_pushed j r mine (last n is) = newest j r mine n is
 
-  one_more : (b : Bool) → b ≡ eqb t.actor k → (j : ℕ) (r : Reply) → slice_get (cond b (replies_of c k h ++ reply_to c h t ∷ []) (replies_of c k h)) j ≡ Some r
-      → slice_get (made_of c h ++ made_from c h t ∷ []) r.place ≡ Some (made k j r)
-  one_more true is j r g = of_pushed j r (eqb-true t.actor k (sym is)) (get_pushed (replies_of c k h) (reply_to c h t) r j g)
-  one_more false is j r g = get_left (made_of c h) (made_from c h t) (made k j r) r.place (before j r g)
+  one_more : (b : Bool) → b ≡ eqb t.actor k → (j : ℕ) (r : Reply) → slice_get (cond b (replies_of rules c k h ++ reply_to rules c h t ∷ []) (replies_of rules c k h)) j ≡ Some r
+      → slice_get (made_of rules c h ++ made_from rules c h t ∷ []) r.place ≡ Some (made k j r)
+  one_more true is j r g = of_pushed j r (eqb-true t.actor k (sym is)) (get_pushed (replies_of rules c k h) (reply_to rules c h t) r j g)
+  one_more false is j r g = get_left (made_of rules c h) (made_from rules c h t) (made k j r) r.place (before j r g)
 
 -- a step stands where its reply says
-pub stands_there : (c : Config) (k : ℕ) (h : History) (j : ℕ) (r : Reply) → slice_get (replies_of c k h) j ≡ Some r → slice_get (made_of c h) r.place ≡ Some (made k j r)
-stands_there c k [] j r g = absurd (cc g)
-stands_there c k (t ∷ h) j r g = one_more c k t h (stands_there c k h) (eqb t.actor k) refl j r g
+pub stands_there : (rules : Rules) (c : Config) (k : ℕ) (h : History) (j : ℕ) (r : Reply) → slice_get (replies_of rules c k h) j ≡ Some r → slice_get (made_of rules c h) r.place ≡ Some (made k j r)
+stands_there rules c k [] j r g = absurd (cc g)
+stands_there rules c k (t ∷ h) j r g = one_more rules c k t h (stands_there rules c k h) (eqb t.actor k) refl j r g
 
 -- ---- a script
 
@@ -83,11 +84,11 @@ pub turns_more : (k : ℕ) (steps : List TimedStep) (s : TimedStep) (before : Hi
 turns_more k [] s before = refl
 turns_more k (x ∷ steps) s before = turns_more k steps s (turn_of x.moment k x.step ∷ before)
 
-pub replies_skip : (c : Config) (k : ℕ) (between h : History) → by k between ≡ [] → replies_of c k (between ++ h) ≡ replies_of c k h
-replies_skip c k [] h none = refl
-replies_skip c k (e ∷ es) h none =
-    not_chosen (eqb e.actor k) e (by k es) (replies_of c k (es ++ h) ++ reply_to c (es ++ h) e ∷ []) (replies_of c k (es ++ h)) none
-    ∙ replies_skip c k es h (none_chosen (eqb e.actor k) e (by k es) none)
+pub replies_skip : (rules : Rules) (c : Config) (k : ℕ) (between h : History) → by k between ≡ [] → replies_of rules c k (between ++ h) ≡ replies_of rules c k h
+replies_skip rules c k [] h none = refl
+replies_skip rules c k (e ∷ es) h none =
+    not_chosen (eqb e.actor k) e (by k es) (replies_of rules c k (es ++ h) ++ reply_to rules c (es ++ h) e ∷ []) (replies_of rules c k (es ++ h)) none
+    ∙ replies_skip rules c k es h (none_chosen (eqb e.actor k) e (by k es) none)
 
 -- ---- places
 

@@ -9,6 +9,6 @@ abbrev pub AreFalling : ℕ → List ℕ → Type 0
 AreFalling high [] = Unit {0}
 AreFalling high (n ∷ ns) = (0 < n) × (n < high) × AreFalling n ns
 
--- a script of fewer steps than an actor has turns, which a bay of this configuration can be given
+-- a script of fewer steps than an actor has turns, which a machine of this configuration can be given
 abbrev pub CanPlay : Config → Script → Type 0
 CanPlay c s = AreFit c s.steps.items × (length s.steps.items ≤ 2 ^ 55)

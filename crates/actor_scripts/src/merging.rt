@@ -3,6 +3,7 @@
 ghost use Rattle.std.specs.Prelude.{◌≡◌, List, length, map, set, Some, IfOk};
 ghost use Rattle.sv_base.specs.declared.config.Config.{Config};
 ghost use Rattle.bay_model.specs.Answers.{History};
+ghost use Rattle.bay_histories.specs.Rules.{Rules};
 ghost use Rattle.actor_scripts.specs.declared.made.Made.{Made as MadeStep};
 ghost use Rattle.actor_scripts.specs.Scripts.{replies_of, made_of};
 ghost use Rattle.actor_scripts.specs.Merging.{AreRight, AreOf};
@@ -40,8 +41,8 @@ fn put(places: &mut [Option<Made>], place: u64, made: Made)
 /// Puts the steps of a part into their places.
 fn put_part(places: &mut [Option<Made>], part: Part)
     ensures length { length places.new ≡ length places.old }
-    ensures right { (c : Config) (h : History) → part.replies.items ≡ replies_of c part.actor h → AreRight (made_of c h) places.old
-        → AreRight (made_of c h) places.new }
+    ensures right { (rules : Rules) (c : Config) (h : History) → part.replies.items ≡ replies_of rules c part.actor h
+        → AreRight (made_of rules c h) places.old → AreRight (made_of rules c h) places.new }
 {
     let Part {
         actor,
@@ -81,7 +82,8 @@ fn filled(alloc: Global, places: Vec<Option<Made>>) -> Result<Vec<Made>, AllocEr
 /// the scripts. It takes time in the number of steps alone. Fails for want of memory alone, where the parts are those of one
 /// history.
 pub fn merge(alloc: Global, parts: Vec<Part>, total: u64) -> Result<Vec<Made>, AllocError>
-    ensures { IfOk result (λ v. (c : Config) (h : History) → total ≡ length h → AreOf c h parts.items → v.items ≡ made_of c h) }
+    ensures { IfOk result (λ v. (rules : Rules) (c : Config) (h : History) → total ≡ length h → AreOf rules c h parts.items
+        → v.items ≡ made_of rules c h) }
 {
     let mut places = empty_places(alloc, total)?;
     for part in parts {

@@ -5,9 +5,7 @@ ghost use Rattle.std.specs.List.{All, list_all, AllByRecursion};
 ghost use Rattle.sv_base.specs.Seen.{seen_of, row_of};
 ghost use Rattle.sv_base.specs.Tree.{Seen};
 ghost use Rattle.mms_data.specs.Grammar.{IsSpelled};
-ghost use Rattle.report_cut.specs.Pdus.{Ascend, IsShort, HasData, CanBeCut};
-ghost use Rattle.bay_answers.specs.ControlPdus.{HasShortName, IsShortError, IsShortTermination};
-ghost use Rattle.bay_answers.specs.Replies.{IsNode, IsWritable, CanBeReplied, CanBeSent};
+ghost use Rattle.output_shapes.specs.Shapes.{Ascend, IsShort, HasData, CanBeCut, HasShortName, IsShortError, IsShortTermination, IsNode, IsWritable, CanBeReplied, CanBeSent};
 ghost use Rattle.answer_text.specs.Sendable.{is_seen_writable, are_writable as are_row_writable, is_result_writable as is_written_result};
 ghost use Rattle.answer_text.specs.Sendable.{are_nodes as are_nodes_below};
 

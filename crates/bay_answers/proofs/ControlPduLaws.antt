@@ -16,7 +16,8 @@ use Rattle.mms_elements.specs.Reports.{report_octets, IsSpecificationElement}
 use Rattle.bay_model.specs.declared.control.ApplError.{ApplError}
 use Rattle.bay_model.specs.declared.control.Termination.{Termination}
 use Rattle.bay_answers.specs.RepliesVariables.{variable_octets}
-use Rattle.bay_answers.specs.ControlPdus.{error_variable, origin_octets, error_parts, error_data, oper_item, oper_variable, report_of, error_pdu, termination_of, termination_pdu, IsShortError, HasShortName, IsShortTermination}
+use Rattle.output_shapes.specs.Shapes.{oper_item, IsShortError, HasShortName, IsShortTermination}
+use Rattle.bay_answers.specs.ControlPdus.{error_variable, origin_octets, error_parts, error_data, oper_variable, report_of, error_pdu, termination_of, termination_pdu}
 
 variable-short : (name : List ℕ) → length (variable_octets name) ≤ 16 + length name
 variable-short name = omega (arith, octets_short 0x30 (octets_of 0xa0 name), octets_short 0xa0 name)

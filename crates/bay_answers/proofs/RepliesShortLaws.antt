@@ -15,9 +15,10 @@ use Rattle.bay_model.specs.declared.answer.Output.{Output}
 use Rattle.bay_model.specs.declared.answer.Output.TheVariants as outputs
 use Rattle.report_cut.proofs.FitLaws.{pdus_fit}
 use Rattle.bay_model.specs.declared.control.ApplError.{ApplError}
-use Rattle.bay_answers.specs.ControlPdus.{error_pdu, IsShortError}
+use Rattle.output_shapes.specs.Shapes.{IsShortError, CanBeSent}
+use Rattle.bay_answers.specs.ControlPdus.{error_pdu}
 use Rattle.bay_answers.proofs.ControlPduLaws.{error-short, termination-short}
-use Rattle.bay_answers.specs.Replies.{response, names_response, names_octets, shown, reply_octets, output_pdus, CanBeSent}
+use Rattle.bay_answers.specs.Replies.{response, names_response, names_octets, shown, reply_octets, output_pdus}
 use Rattle.bay_answers.proofs.RepliesNamesLaws.{as_long, shown_fit}
 
 error_short : (invoke class code : ℕ) → length (error_octets invoke class code) ≤ 100

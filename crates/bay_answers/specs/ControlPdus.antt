@@ -1,19 +1,19 @@
 -- What is sent of controls, as information reports (IEC 61850-8-1, LastApplError and CommandTermination; ISO 9506-2,
 -- InformationReport), in the minimal spelling of each element.
-use Rattle.std.specs.Prelude.{◌≡◌, ◌≤◌, ◌<◌, ℕ, pos, List, [], ◌∷◌, ◌++◌, length, codes, Option, None, Some, IfSome, slice_get}
+use Rattle.std.specs.Prelude.{ℕ, pos, List, [], ◌++◌, codes, Option, None, Some, slice_get}
 use Rattle.std.specs.Option.{option_map_or}
 use Rattle.ber_write.specs.Minimal.{octets_of, uint_octets, int_octets}
 use Rattle.sv_base.specs.Data.{data_of}
-use Rattle.sv_base.specs.CtlServices.{service_name}
 use Rattle.sv_base.specs.declared.config.Config.{Config}
 use Rattle.sv_base.specs.declared.config.CtlDef.{CtlDef}
-use Rattle.sv_base.specs.declared.ctl_services.CtlService.TheVariants.{Oper}
+use Rattle.bay_answers.specs.declared.control_errors.TheConstants.{UNKNOWN}
 use Rattle.mms_data.specs.declared.tags.TheConstants.{INTEGER, OCTET_STRING, STRUCTURE, UNSIGNED, VISIBLE_STRING}
 use Rattle.mms_pdu.specs.AskingOctets.{domain_name}
 use Rattle.mms_elements.specs.Reports.{report_octets}
 use Rattle.mms_elements.specs.declared.tags.TheConstants.{LIST_OF_VARIABLE, VMD_SPECIFIC}
 use Rattle.bay_model.specs.declared.control.ApplError.{ApplError}
 use Rattle.bay_model.specs.declared.control.Termination.{Termination}
+use Rattle.output_shapes.specs.Shapes.{oper_item}
 use Rattle.bay_answers.specs.RepliesVariables.{variable_octets}
 
 -- the variable LastApplError, which is vmd-specific
@@ -24,18 +24,15 @@ error_variable = variable_octets (octets_of VMD_SPECIFIC (codes "LastApplError")
 abbrev pub origin_octets : ApplError → List ℕ
 origin_octets e = octets_of INTEGER (int_octets e.or_cat) ++ octets_of OCTET_STRING e.or_ident
 
--- CntrlObj, a visible string; Error, which is 1; Origin, a structure; ctlNum; AddCause, an integer that isn't negative
+-- CntrlObj, a visible string; Error; Origin, a structure; ctlNum; AddCause, an integer that isn't negative
 abbrev pub error_parts : ApplError → List ℕ
-error_parts e = octets_of VISIBLE_STRING e.object ++ (octets_of INTEGER (int_octets (pos 1)) ++ (octets_of STRUCTURE (origin_octets e) ++ (octets_of UNSIGNED (uint_octets e.ctl_num) ++ octets_of INTEGER (uint_octets e.cause))))
+error_parts e = octets_of VISIBLE_STRING e.object ++ (octets_of INTEGER (int_octets UNKNOWN) ++ (octets_of STRUCTURE (origin_octets e) ++ (octets_of UNSIGNED (uint_octets e.ctl_num) ++ octets_of INTEGER (uint_octets e.cause))))
 
 -- its value, a structure
 unfoldable pub error_data : ApplError → List ℕ
 error_data e = octets_of STRUCTURE (error_parts e)
 
--- the variable Oper of a control's line, `LN$CO$DO$Oper` of its domain
-abbrev pub oper_item : CtlDef → List ℕ
-oper_item k = k.ln ++ (codes "$CO$" ++ (k.path ++ 36 ∷ service_name Oper))
-
+-- the variable Oper of a control's line
 abbrev pub oper_variable : CtlDef → List ℕ
 oper_variable k = variable_octets (domain_name k.domain (oper_item k))
 
@@ -54,21 +51,3 @@ termination_of k t (Some e) = report_of (error_variable ++ oper_variable k) (err
 
 abbrev pub termination_pdu : Config → Termination → List ℕ
 termination_pdu c t = option_map_or (λ k. termination_of k t t.error) (slice_get c.controls t.control.0) []
-
--- ---- what can be sent
-
--- an ObjectReference (IEC 61850-7-2) and an orIdent of their greatest length at most
-pub record IsShortError (e : ApplError) : Type 0 where
-  pub object : length e.object ≤ 129
-  pub ident : length e.or_ident ≤ 64
-
-pub record HasShortName (k : CtlDef) : Type 0 where
-  pub domain : length k.domain ≤ 129
-  pub item : length (oper_item k) ≤ 129
-
--- the control is there, and its name and the values are short
-pub record IsShortTermination (c : Config) (t : Termination) : Type 0 where
-  pub control : t.control.0 < length c.controls
-  pub name : (k : CtlDef) → slice_get c.controls t.control.0 ≡ Some k → HasShortName k
-  pub oper : length (data_of t.oper) ≤ 300
-  pub error : IfSome t.error IsShortError

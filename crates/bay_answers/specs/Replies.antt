@@ -1,27 +1,20 @@
 -- The PDUs of what a bay answers (ISO 9506-2, MMSpdu; IEC 61850-8-1, the mapping of its services).
-use Rattle.std.specs.Prelude.{◌≡◌, ℕ, ◌<◌, ◌≤◌, ◌==◌, ◌||◌, Bool, true, false, nat_le, nat_lt, if◌then◌else◌}
-use Rattle.std.specs.Prelude.{List, [], ◌∷◌, ◌++◌, length, map, None, Some, Result, Ok, Err}
-use Rattle.std.specs.List.{All}
-use Rattle.sv_base.specs.Seen.{seen_of}
-use Rattle.sv_base.specs.Depth.{depth, HasNoOther}
+use Rattle.std.specs.Prelude.{◌≡◌, ℕ, ◌==◌, ◌||◌, Bool, true, false, nat_le, nat_lt, if◌then◌else◌}
+use Rattle.std.specs.Prelude.{List, [], ◌∷◌, ◌++◌, length, map, None, Some}
 use Rattle.sv_base.specs.declared.config.Config.{Config}
-use Rattle.sv_base.specs.declared.numbers.NodeId.{NodeId}
-use Rattle.sv_base.specs.declared.value.Value.{Value}
-use Rattle.mms_data.specs.Writable.{SeenHasFractions}
 use Rattle.mms_elements.specs.declared.tags.TheConstants.{GET_NAME_LIST, READ, WRITE, GET_ATTRIBUTES, GET_LIST_ATTRIBUTES, DELETE_LIST}
 use Rattle.mms_pdu.specs.ReplyOctets.{answer_octets, error_octets, reject_octets, concluded_octets}
-use Rattle.bay_model.specs.Named.{nodes}
 use Rattle.bay_model.specs.declared.reply.Reply.{Reply}
 use Rattle.bay_model.specs.declared.reply.Reply.TheVariants as replies
 use Rattle.bay_model.specs.declared.answer.Output.{Output}
 use Rattle.bay_model.specs.declared.answer.Output.TheVariants as outputs
 use Rattle.object_model.specs.Tables.{node_type}
-use Rattle.report_cut.specs.Pdus.{pdus, CanBeCut}
-use Rattle.bay_answers.specs.ControlPdus.{error_pdu, termination_pdu, IsShortError, IsShortTermination}
+use Rattle.report_cut.specs.Pdus.{pdus}
+use Rattle.bay_answers.specs.ControlPdus.{error_pdu, termination_pdu}
 use Rattle.bay_answers.specs.RepliesContents.{status_content, identify_content, names_content, type_content}
 use Rattle.bay_answers.specs.RepliesContents.{read_content, written_content, set_content, deleted_content}
 use Rattle.bay_answers.specs.declared.tags.TheConstants.{DEFINE_LIST, IDENTIFY, STATUS}
-use Rattle.sv_base.specs.declared.rejections.TheConstants.{UNKNOWN_PDU, UNKNOWN_SERVICE, INVALID_ARGUMENT, INVALID_PDU}
+use Rattle.sv_base.specs.declared.rejections.TheConstants.{UNKNOWN_SERVICE, INVALID_ARGUMENT}
 use Rattle.bay_model.specs.declared.service_errors.TheConstants.{SERVICE, PDU_SIZE}
 
 -- the response of the service with this tag; where it is longer than the size, the error class service with the code pdu-size
@@ -78,29 +71,6 @@ abbrev pub output_pdus : Config → ℕ → Output → List (List ℕ)
 output_pdus c size (outputs.Reply before invoke reply) = map error_pdu before ++ reply_octets c size invoke reply ∷ []
 output_pdus c size (outputs.Report r) = pdus r size
 output_pdus c size (outputs.Termination t) = termination_pdu c t ∷ []
-
--- ---- what can be sent
-
--- Data that has a spelling (ISO 9506-2, Data), at most ten deep
-abbrev pub IsWritable : Result Value ℕ → Type 0
-IsWritable (Ok v) = HasNoOther v × (depth v ≤ 10) × SeenHasFractions (seen_of v)
-IsWritable (Err code) = Unit {0}
-
-abbrev pub IsNode : Config → NodeId → Type 0
-IsNode c n = n.0 < length (nodes c)
-
--- Each node is one of the model's, and a reject has the number of a refusal.
-abbrev pub CanBeReplied : Config → Reply → Type 0
-CanBeReplied c (replies.TypeOfNode n) = IsNode c n
-CanBeReplied c (replies.Read asked results) = All IsWritable results
-CanBeReplied c (replies.SetOf deletable members) = All (IsNode c) members
-CanBeReplied c (replies.Reject n) = (UNKNOWN_PDU ≤ n) × (n ≤ INVALID_PDU)
-CanBeReplied c _ = Unit {0}
-
-abbrev pub CanBeSent : Config → Output → Type 0
-CanBeSent c (outputs.Reply before invoke reply) = All IsShortError before × CanBeReplied c reply
-CanBeSent c (outputs.Report r) = CanBeCut r
-CanBeSent c (outputs.Termination t) = IsShortTermination c t × IsWritable (Ok t.oper)
 
 -- ---- as many names as fit, without saying how they are found
 

@@ -1,5 +1,5 @@
 -- The names of variables and lists of variables that are written (ISO 9506-2, ObjectName and VariableAccessSpecification).
-use Rattle.std.specs.Prelude.{ℕ, List, [], ◌++◌}
+use Rattle.std.specs.Prelude.{ℕ, List, []}
 use Rattle.std.specs.List.{flat_map}
 use Rattle.ber_write.specs.Minimal.{octets_of}
 use Rattle.sv_base.specs.declared.config.Config.{Config}

@@ -3,12 +3,13 @@
 
 ghost use Rattle.std.specs.Prelude.{◌≡◌, ◌≤◌, ◌<◌, ◌++◌, ◌^◌, length, OnOk, IfOk};
 ghost use Rattle.sv_base.specs.Data.{data_of};
-ghost use Rattle.bay_answers.specs.ControlPdus.{error_variable, origin_octets, error_parts, error_data as data_of_error, oper_item as item_of};
+ghost use Rattle.output_shapes.specs.Shapes.{oper_item as item_of, IsShortTermination, HasShortName, IsWritable};
+ghost use Rattle.bay_answers.specs.ControlPdus.{error_variable, origin_octets, error_parts, error_data as data_of_error};
 ghost use Rattle.bay_answers.specs.ControlPdus.{oper_variable, error_pdu as pdu_of_error};
-ghost use Rattle.bay_answers.specs.ControlPdus.{termination_of, termination_pdu as pdu_of_termination, IsShortTermination, report_of, HasShortName};
-ghost use Rattle.bay_answers.specs.Replies.{IsWritable};
+ghost use Rattle.bay_answers.specs.ControlPdus.{termination_of, termination_pdu as pdu_of_termination, report_of};
 ghost use Rattle.std.specs.Prelude.{Ok};
 
+use crate::control_errors;
 use crate::replies_variables::{add_variable, domain_octets};
 use bay_model::{ApplError, Termination};
 use ber_write::{add, enclosed, put_int, put_uint};
@@ -44,7 +45,7 @@ fn parts(alloc: Global, error: &ApplError) -> Result<Vec<u8>, AllocError>
     let origin = origin(alloc, error)?;
     let mut out = Vec::new(alloc);
     add(&mut out, data_tags::VISIBLE_STRING, error.object.as_slice())?;
-    put_int(&mut out, data_tags::INTEGER, 1)?;
+    put_int(&mut out, data_tags::INTEGER, control_errors::UNKNOWN)?;
     add(&mut out, data_tags::STRUCTURE, origin.as_slice())?;
     put_uint(&mut out, data_tags::UNSIGNED, u64::from(error.ctl_num))?;
     put_uint(&mut out, data_tags::INTEGER, u64::from(error.cause))?;

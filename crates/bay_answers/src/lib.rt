@@ -4,6 +4,7 @@
 //! bay and not in it.
 #![tactic(auto)]
 
+mod control_errors;
 mod control_pdus;
 mod replies;
 mod replies_contents;

@@ -3,9 +3,9 @@
 ghost use Rattle.std.specs.Prelude.{◌≡◌, ◌≤◌, ◌∷◌, ◌++◌, [], length, map, Ok, IfOk, OnOk};
 ghost use Rattle.std.specs.List.{AllByRecursion};
 ghost use Rattle.mms_pdu.specs.ReplyOctets.{concluded_octets};
-ghost use Rattle.bay_answers.specs.Replies.{rejected as rejected_of, reply_octets as octets_of_reply, output_pdus as pdus_of, CanBeReplied};
-ghost use Rattle.bay_answers.specs.Replies.{CanBeSent, IsWritable};
-ghost use Rattle.bay_answers.specs.ControlPdus.{error_pdu as pdu_of_error, termination_pdu as pdu_of_termination, IsShortTermination};
+ghost use Rattle.output_shapes.specs.Shapes.{CanBeReplied, CanBeSent, IsWritable, IsShortTermination};
+ghost use Rattle.bay_answers.specs.Replies.{rejected as rejected_of, reply_octets as octets_of_reply, output_pdus as pdus_of};
+ghost use Rattle.bay_answers.specs.ControlPdus.{error_pdu as pdu_of_error, termination_pdu as pdu_of_termination};
 ghost use Rattle.sv_base.specs.declared.rejections.TheConstants.{UNKNOWN_PDU, INVALID_PDU};
 
 use crate::control_pdus::{error_pdu, termination_pdu};

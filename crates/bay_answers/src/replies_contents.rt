@@ -8,7 +8,8 @@ ghost use Rattle.object_model.specs.Tables.{node_type};
 ghost use Rattle.bay_answers.specs.declared.tags.TheConstants.{IDENTIFY};
 ghost use Rattle.bay_answers.specs.RepliesContents.{identify_content, type_content, result_octets, results_octets, read_content};
 ghost use Rattle.bay_answers.specs.RepliesContents.{written_octets, written_content, set_content, deleted_content};
-ghost use Rattle.bay_answers.specs.Replies.{IsWritable, IsNode, response};
+ghost use Rattle.output_shapes.specs.Shapes.{IsWritable, IsNode};
+ghost use Rattle.bay_answers.specs.Replies.{response};
 
 use crate::replies_elements::{add_truth, begin, element_len, respond};
 use crate::replies_variables::{add_nodes, asked_octets};

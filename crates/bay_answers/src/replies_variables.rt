@@ -7,7 +7,7 @@ ghost use Rattle.mms_pdu.specs.AskingOctets.{domain_name};
 ghost use Rattle.mms_elements.specs.declared.tags.TheConstants.{LIST_OF_VARIABLE, SPECIFICATION_OF_RESULT, VARIABLE_LIST_NAME};
 ghost use Rattle.bay_answers.specs.RepliesVariables.{name_octets, variable_octets, target_octets, asked_octets as asked_of};
 ghost use Rattle.bay_answers.specs.RepliesVariables.{node_name as name_of_node, node_octets};
-ghost use Rattle.bay_answers.specs.Replies.{IsNode};
+ghost use Rattle.output_shapes.specs.Shapes.{IsNode};
 
 use bay_model::{Asked, ObjName, SetName, Target};
 use ber_write::{add, enclosed};

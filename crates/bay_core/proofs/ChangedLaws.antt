@@ -5,6 +5,8 @@ use Rattle.std.specs.Option.{option_map, option_map_or}
 use Rattle.std.proofs.lemmas.List.{length-map}
 use Rattle.sv_base.specs.declared.config.Config.{Config}
 use Rattle.sv_base.specs.declared.numbers.NodeId.{NodeId}
+use Rattle.bay_model.specs.declared.deletion_scopes.TheConstants.{SPECIFIC}
+use Rattle.bay_model.specs.declared.service_errors.TheConstants.{ACCESS, OBJECT_ACCESS_DENIED}
 use Rattle.bay_model.specs.declared.reply.Reply.TheVariants as replies
 use Rattle.bay_model.specs.declared.request.Service.TheVariants as services
 use Rattle.bay_model.specs.declared.request.SetName.{SetName}
@@ -114,8 +116,8 @@ module _ (old : State) (moment a : ℕ) (domain item : List ℕ) (ts : List Targ
 
 -- ---- deletions
 
-pub scope-refused : (old new : State) (moment a scope : ℕ) (names : List SetName) → IsNumber a → (scope == 0) ≡ false
-    → ((c : Config) (n : ℕ) (past : Past) → StandsAt old c n past → StandsAt new c n (arrival n moment ∷ past)) → IsReplied old new moment a (services.Delete scope names) (replies.Error 7 3)
+pub scope-refused : (old new : State) (moment a scope : ℕ) (names : List SetName) → IsNumber a → (scope == SPECIFIC) ≡ false
+    → ((c : Config) (n : ℕ) (past : Past) → StandsAt old c n past → StandsAt new c n (arrival n moment ∷ past)) → IsReplied old new moment a (services.Delete scope names) (replies.Error ACCESS OBJECT_ACCESS_DENIED)
 scope-refused old new moment a scope names number other arrived_ = (
   λ c n past st. rw other refl,
   λ c n past output st fresh.
@@ -123,7 +125,7 @@ scope-refused old new moment a scope names number other arrived_ = (
       subst (λ (k : Change). StandsAt (replied new a output) c n (at n moment (answered a output k) ∷ past)) (sym change) (answered-at new c n moment a output past fresh number (arrived_ c n past st)),
 )
 
-pub deletions-done : (old z : State) (moment a scope : ℕ) (names : List SetName) → length old.parts ≡ length old.config.blocks → IsBooked old.config old.book → IsNumber a → (scope == 0) ≡ true
+pub deletions-done : (old z : State) (moment a scope : ℕ) (names : List SetName) → length old.parts ≡ length old.config.blocks → IsBooked old.config old.book → IsNumber a → (scope == SPECIFIC) ≡ true
     → z ≡ at_arrival moment old → ((c : Config) (n : ℕ) (past : Past) → StandsAt old c n past → StandsAt z c n (arrival n moment ∷ past))
     → IsReplied old (after_deletions names z) moment a (services.Delete scope names) (replies.Deleted (matched_in names z) (deleted_in names z))
 deletions-done old z moment a scope names count booked number all_ behind arrived_ = (

@@ -7,7 +7,7 @@ ghost use Rattle.bay_core.specs.Deleted.{is_reported as is_reported_by};
 ghost use Rattle.bay_values.specs.Marked.{one_if};
 
 use crate::bay::Bay;
-use bay_model::{Reply, SetName, SetNames, service_errors};
+use bay_model::{Reply, SetName, SetNames, deletion_scopes, service_errors};
 use data_sets::{DeleteFault, is_reference};
 use report_block::ReportBlock;
 use std::alloc::AllocError;
@@ -119,7 +119,7 @@ impl Bay {
         ensures refused { OnErr result (self.new ≡ self.old) }
     {
         let _ = &self.sets;
-        if scope != 0 {
+        if scope != deletion_scopes::SPECIFIC {
             self.arrive(moment);
             return Ok(Reply::Error {
                 class: service_errors::ACCESS,

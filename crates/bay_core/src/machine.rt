@@ -8,9 +8,12 @@ use std::alloc::Global;
 use sv_base::{ActorNo, Moment};
 
 impl StateMachine for Bay {
+    ghost use Rattle.bay_histories.specs.Rules.{bay_rules};
     ghost use Rattle.bay_core.specs.Standing.{StandsFor};
 
     ghost config = { λ b. b.config };
+
+    ghost rules = { bay_rules };
 
     ghost stands = { StandsFor };
 

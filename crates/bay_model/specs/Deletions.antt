@@ -9,6 +9,7 @@ use Rattle.bay_model.specs.Lookups.{reference_of}
 use Rattle.bay_model.specs.Points.{Past, Change, unchanged, deleted}
 use Rattle.bay_model.specs.Parameters.{parameters_at}
 use Rattle.bay_model.specs.Sets.{sets, set_named, without}
+use Rattle.bay_model.specs.declared.deletion_scopes.TheConstants.{SPECIFIC}
 use Rattle.bay_model.specs.declared.service_errors.TheConstants.{ACCESS, OBJECT_ACCESS_DENIED}
 
 -- the DatSet of a block, from number b on, names the set
@@ -34,8 +35,10 @@ matched c past (n ∷ ns) all = (if is_some (set_named n all) then 1 else 0)
     + matched c past ns (if is_some (set_named n all) && is_deletable c past n then without n all else all)
 
 abbrev pub deletion_reply : Model → Past → ℕ → List SetName → Reply
-deletion_reply c past scope names = if scope == 0 then replies.Deleted (matched c past names (sets c past)) (length (gone c past names (sets c past))) else replies.Error ACCESS OBJECT_ACCESS_DENIED
+deletion_reply c past scope names =
+    if scope == SPECIFIC then replies.Deleted (matched c past names (sets c past)) (length (gone c past names (sets c past)))
+    else replies.Error ACCESS OBJECT_ACCESS_DENIED
 
 -- what comes of the data sets
 abbrev pub deletion_change : Model → Past → ℕ → List SetName → Change
-deletion_change c past scope names = if scope == 0 then deleted (gone c past names (sets c past)) else unchanged
+deletion_change c past scope names = if scope == SPECIFIC then deleted (gone c past names (sets c past)) else unchanged

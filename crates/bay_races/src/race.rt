@@ -4,6 +4,7 @@ ghost use Rattle.std.specs.Prelude.{◌≡◌, [], length, map, IfOk};
 ghost use Rattle.std.specs.List.{All};
 ghost use Rattle.bay_config.specs.Servable.{IsServable};
 ghost use Rattle.bay_model.specs.Answers.{History};
+ghost use Rattle.bay_histories.specs.Rules.{bay_rules};
 ghost use Rattle.bay_core.specs.Standing.{StandsFor};
 ghost use Rattle.actor_scripts.specs.Actors.{AreFalling, CanPlay};
 ghost use Rattle.actor_scripts.specs.Raced.{IsRaced};
@@ -37,7 +38,8 @@ pub fn race_over<R: Threads + Wait + Sync, G: Gate>(
     requires model { IsServable model.now }
     requires numbers { AreFalling 33 (map (λ a. a.script.actor) actors.items) }
     requires steps { All (λ a. CanPlay model.now a.script) actors.items }
-    ensures { IfOk result (λ r. (h : History) × (r.total ≡ length h) × IsRaced model.now (map (λ a. a.script) actors.items) r.parts.items h) }
+    ensures { IfOk result (λ r. (h : History) × (r.total ≡ length h)
+        × IsRaced bay_rules model.now (map (λ a. a.script) actors.items) r.parts.items h) }
 {
     match open_bay(alloc, model) {
         Ok(bay) => race(rt, alloc, bay, actors),

@@ -8,6 +8,8 @@ use Rattle.std.proofs.lemmas.Bool.Decides.{nat_tests}
 use Rattle.std.specs.List.{All, find}
 use Rattle.std.proofs.lemmas.List.Elements.{All-nil, All-cons, All-head, All-tail}
 use Rattle.sv_base.specs.declared.numbers.NodeId.{NodeId}
+use Rattle.bay_model.specs.declared.object_classes.TheConstants.{NAMED_VARIABLE, NAMED_VARIABLE_LIST}
+use Rattle.bay_model.specs.declared.service_errors.TheConstants.{ACCESS, OBJECT_NON_EXISTENT}
 use Rattle.bay_model.specs.declared.reply.Reply.TheVariants as replies
 use Rattle.bay_model.specs.declared.request.Scope.{Scope}
 use Rattle.bay_model.specs.declared.request.Scope.TheVariants as scopes
@@ -152,7 +154,7 @@ module _ (r : Replies) (served : IsServed r.model.now r.store.now r.groups.now r
 
   scoped-told : (class : ℕ) (scope : Scope) → scoped r class scope ≡ names_of cm past class scope
   scoped-told class scopes.Vmd = refl
-  scoped-told class (scopes.Domain d) = ap (λ l. if class == 0 then variables_of cm d else (if class == 2 then l else []))
+  scoped-told class (scopes.Domain d) = ap (λ l. if class == NAMED_VARIABLE then variables_of cm d else (if class == NAMED_VARIABLE_LIST then l else []))
       (items d r.book.now.sets ∙ ap (λ ss. map (λ (s : DataSet). s.item) (filter (λ (s : DataSet). bytes_eq s.domain d) ss)) stand.sets.sets)
   scoped-told class scopes.Assoc = refl
 
@@ -160,7 +162,7 @@ module _ (r : Replies) (served : IsServed r.model.now r.store.now r.groups.now r
   replied-told services.Status h = refl
   replied-told services.Identify h = refl
   replied-told services.Conclude h = refl
-  replied-told (services.Names class scope after) h = ap (λ l. if is_unknown cm scope then replies.Error 7 2 else replies.Names (within size (listed after l))) (scoped-told class scope)
+  replied-told (services.Names class scope after) h = ap (λ l. if is_unknown cm scope then replies.Error ACCESS OBJECT_NON_EXISTENT else replies.Names (within size (listed after l))) (scoped-told class scope)
   replied-told (services.TypeOfNode t) h = refl
   replied-told (services.Read ts spec) h = absurd h
   replied-told (services.ReadSet domain item spec) h = read-set-told (set_name domain item) spec (number_named (set_name domain item) r.book.now) refl

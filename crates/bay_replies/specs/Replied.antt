@@ -22,6 +22,7 @@ use Rattle.data_sets.specs.declared.book.DeleteFault.{DeleteFault}
 use Rattle.data_sets.specs.declared.book.DeleteFault.TheVariants as faults
 use Rattle.bay_replies.specs.declared.replies.Replies.{Replies}
 use Rattle.bay_replies.specs.Given.{node_read}
+use Rattle.bay_model.specs.declared.object_classes.TheConstants.{NAMED_VARIABLE, NAMED_VARIABLE_LIST, DOMAIN}
 use Rattle.bay_model.specs.declared.service_errors.TheConstants.{ACCESS, OBJECT_NON_EXISTENT}
 use Rattle.sv_base.specs.declared.rejections.TheConstants.{UNKNOWN_PDU}
 
@@ -36,8 +37,10 @@ empty_if b = if b then [] ∷ [] else []
 
 -- what a class of names has in a scope
 abbrev pub scoped : Replies → ℕ → Scope → List (List ℕ)
-scoped r class scopes.Vmd = if class == 9 then domains r.model.now else []
-scoped r class (scopes.Domain d) = if class == 0 then variables_of (configured_model r.model.now) d else (if class == 2 then items_in d r.book.now.sets else [])
+scoped r class scopes.Vmd = if class == DOMAIN then domains r.model.now else []
+scoped r class (scopes.Domain d) =
+    if class == NAMED_VARIABLE then variables_of (configured_model r.model.now) d
+    else (if class == NAMED_VARIABLE_LIST then items_in d r.book.now.sets else [])
 scoped r class scopes.Assoc = []
 
 abbrev pub names_by : Replies → ℕ → ℕ → Scope → Option (List ℕ) → Reply

@@ -8,7 +8,7 @@ ghost use Rattle.bay_replies.specs.Replied.{empty_if};
 
 use crate::names_within;
 use crate::replies::Replies;
-use bay_model::{Names, Reply, Scope, service_errors};
+use bay_model::{Names, Reply, Scope, object_classes, service_errors};
 use name_order::{in_order, names_after};
 use object_model::domains;
 use std::alloc::{AllocError, Global};
@@ -110,8 +110,8 @@ impl<'a> Replies<'a> {
         Ok(names.into_vec())
     }
 
-    /// The names of a class in a scope, above a name, or all of them: of class 9 those of the domains; of class 0 in a domain those of
-    /// its variables, of class 2 those of its data sets; none of any other.
+    /// The names of a class in a scope, above a name, or all of them: of the server those of its domains; of a domain those of its
+    /// variables or of its data sets; none of any other pair.
     fn names(
         &self,
         alloc: Global,
@@ -123,11 +123,13 @@ impl<'a> Replies<'a> {
         ensures { IfOk result (λ v. v.items ≡ listed (option_copied after.entry) (scoped self.entry.now class scope.now)) }
     {
         match scope {
-            Scope::Vmd if class == 9 => self.domains(alloc, after),
-            Scope::Domain(domain) if class == 0 => {
+            Scope::Vmd if class == object_classes::DOMAIN => self.domains(alloc, after),
+            Scope::Domain(domain) if class == object_classes::NAMED_VARIABLE => {
                 self.variables(alloc, domain.as_slice(), after)
             }
-            Scope::Domain(domain) if class == 2 => self.sets(alloc, domain.as_slice(), after),
+            Scope::Domain(domain) if class == object_classes::NAMED_VARIABLE_LIST => {
+                self.sets(alloc, domain.as_slice(), after)
+            }
             _ => Ok(Vec::new(alloc)),
         }
     }

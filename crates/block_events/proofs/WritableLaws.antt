@@ -41,7 +41,7 @@ use Rattle.bay_config.specs.Servable.{IsServable, IsMember, attr_type}
 use Rattle.bay_values.specs.Held.{AreHeld}
 use Rattle.block_reports.proofs.OneElement.{member_is_one}
 use Rattle.block_watch.proofs.ShapeLaws.{IsShapeOf}
-use Rattle.object_model.proofs.KindLaws.{of_controls}
+use Rattle.object_model.proofs.KindLaws.{types-settable as all-settable}
 
 -- ---- lists
 
@@ -57,22 +57,8 @@ HasPlainType a = IsSettable a.kind
 lines-plain : (c : Config) → IsServable c → All HasPlainType c.attrs
 lines-plain c served = λ k d below. (served.storable.lines k d below).settable
 
--- what a control generates are numbers of 8 and of 32 bits
-abbrev kinds-of : CtlDef → List TypeOf
-kinds-of k = map (λ (p : Parameter). p.kind) (parameters k)
-
-parameters-plain : (k : CtlDef) → All IsSettable (kinds-of k)
-parameters-plain k = by (is_selected k) where
-  by : (b : Bool) → All IsSettable (map (λ (p : Parameter). p.kind) (record { name = codes "ctlModel"; kind = types.Int 8; value = kinds.Int (pos k.model) } ∷ (if b then selection k else [])))
-  by true = All-cons IsSettable (types.Int 8) (types.Uint 32 ∷ types.Int 8 ∷ []) (inl refl) (All-cons IsSettable (types.Uint 32) (types.Int 8 ∷ []) (inr (inr (inl refl))) (All-cons IsSettable (types.Int 8) [] (inl refl) (All-nil IsSettable)))
-  by false = All-cons IsSettable (types.Int 8) [] (inl refl) (All-nil IsSettable)
-
 pub types-settable : (c : Config) → IsServable c → All IsSettable (attr_types c)
-types-settable c served =
-    let lines = lines-plain c served in
-    All-append IsSettable (map (λ (a : AttrDef). a.kind) c.attrs) _ (All-map IsSettable (λ (a : AttrDef). a.kind) c.attrs lines)
-    (All-append IsSettable (flat_map (λ (k : CtlDef). map (λ (p : Parameter). p.kind) (parameters k)) c.controls) (map (λ (a : AttrDef). a.kind) (filter is_setting c.attrs)) (of_controls c.controls)
-    (All-map IsSettable (λ (a : AttrDef). a.kind) (filter is_setting c.attrs) (All-filter is_setting HasPlainType c.attrs lines)))
+types-settable c served = all-settable c (lines-plain c served)
 
 pub type-settable : (c : Config) (x : ℕ) → IsServable c → IsSettable (attr_type c x)
 type-settable c x served = at-or IsSettable (attr_types c) x types.Bool tt (types-settable c served)

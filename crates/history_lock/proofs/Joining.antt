@@ -1,6 +1,7 @@
 -- Passes that were split, joined and compared.
 use Rattle.std.proofs.Common.{◌≡◌, ℕ, ◌≢◌, ◌⊎◌, List, [], ◌∷◌, ◌++◌, length, Ok, Err, sym, refl, ap, ◌∙◌, subst, inl, inr, ⊎_elim, arith, length-append}
 use Rattle.bay_model.specs.Answers.{History}
+use Rattle.bay_histories.specs.Rules.{Rules}
 use Rattle.bay_histories.specs.Histories.{IsEarlier, turn_of, by}
 use Rattle.history_lock.specs.declared.fault.TurnFault.TheVariants as faults
 use Rattle.history_lock.specs.Passes.{Known, IsIn, InSome, HasNumber, Turned, Joined, Became, itself, was_split, made_turn, took_in, was_taken_in, IsBehind, AreOfOne}
@@ -32,21 +33,21 @@ Holds k l r = HasNumber r k × (by k r.seen ≡ l)
 between_none : (k : ℕ) (between seen : History) → by k between ≡ [] → by k (between ++ seen) ≡ by k seen
 between_none k between seen none = by-append k between seen ∙ ap (λ (l : History). l ++ by k seen) none
 
-after_turn : (k : ℕ) (l : History) (p r : Known) (moment : ℕ) (step : _) (result : _) → Holds k l p → p.first ≢ k → Turned p moment step result r → Holds k l r
-after_turn k l p r moment step (Ok x) h other t =
+after_turn : (rules : Rules) (k : ℕ) (l : History) (p r : Known) (moment : ℕ) (step : _) (result : _) → Holds k l p → p.first ≢ k → Turned rules p moment step result r → Holds k l r
+after_turn rules k l p r moment step (Ok x) h other t =
     let none = between_none k t.1 p.seen (t.2 k h.0) in
     subst (Holds k l) (sym t.3.0) (h.0, by_none k (t.1 ++ p.seen) (turn_of moment p.first step) other ∙ (none ∙ h.1))
-after_turn k l p r moment step (Err faults.Ended) h other t = subst (Holds k l) (sym t.1) h
-after_turn k l p r moment step (Err (faults.Step f)) h other t = subst (Holds k l) (sym t.3.0) (h.0, between_none k t.1 p.seen (t.2 k h.0) ∙ h.1)
+after_turn rules k l p r moment step (Err faults.Ended) h other t = subst (Holds k l) (sym t.1) h
+after_turn rules k l p r moment step (Err (faults.Step f)) h other t = subst (Holds k l) (sym t.3.0) (h.0, between_none k t.1 p.seen (t.2 k h.0) ∙ h.1)
 
 -- a pass that another became has seen of its number what the other had
-pub became : (k : ℕ) (q r : Known) → Became k q r → Holds k (by k q.seen) r
-became k q r (itself has) = (has, refl)
-became k q r (was_split p s numbers turns b is has) =
-    (has, ⊎_elim (λ e. ap (λ (x : Known). by k x.seen) e) (λ e. ap (λ (x : Known). by k x.seen) e) is ∙ (became k q p b).1)
-became k q r (made_turn p s moment step result b other t) = after_turn k (by k q.seen) p s moment step result (became k q p b) other t
-became k q r (took_in p o s b j) = let h = became k q p b in (has_ours k p o s j h.0, j.ours k h.0 ∙ h.1)
-became k q r (was_taken_in p o s b j) = let h = became k q o b in (has_theirs k p o s j h.0, j.theirs k h.0 ∙ h.1)
+pub became : (rules : Rules) (k : ℕ) (q r : Known) → Became rules k q r → Holds k (by k q.seen) r
+became rules k q r (itself has) = (has, refl)
+became rules k q r (was_split p s numbers turns b is has) =
+    (has, ⊎_elim (λ e. ap (λ (x : Known). by k x.seen) e) (λ e. ap (λ (x : Known). by k x.seen) e) is ∙ (became rules k q p b).1)
+became rules k q r (made_turn p s moment step result b other t) = after_turn rules k (by k q.seen) p s moment step result (became rules k q p b) other t
+became rules k q r (took_in p o s b j) = let h = became rules k q p b in (has_ours k p o s j h.0, j.ours k h.0 ∙ h.1)
+became rules k q r (was_taken_in p o s b j) = let h = became rules k q o b in (has_theirs k p o s j h.0, j.theirs k h.0 ∙ h.1)
 
 -- where each has seen what the other has, neither has seen more
 no_more : (xs ys since : History) → since ++ xs ≡ ys → IsEarlier ys xs → since ≡ []

@@ -11,6 +11,7 @@ use Rattle.sv_base.specs.declared.config.Config.{Config}
 use Rattle.history_lock.specs.declared.view.View.{View}
 use Rattle.history_lock.specs.declared.view.Phase.{Phase}
 use Rattle.history_lock.specs.declared.view.Phase.TheVariants.{Idle, Drawn, Busy, Added}
+use Rattle.bay_histories.specs.Rules.{Rules}
 use Rattle.bay_histories.specs.Histories.{by, IsLegal}
 use Rattle.history_lock.specs.Views.{Stands, total, hit, has, has_phase, ticket_of, busy, busy_phase, added, added_phase, mine, aside_of, holds_number, left_of}
 use Rattle.history_lock.specs.Rule.{FollowsRule, Fits, FitsPhase, Table}
@@ -61,19 +62,19 @@ busy_fits serving log seen (Added n) h f = (f.1, λ t. ap (λ (x : ℕ). hit x t
 no_wrap : (n : ℕ) → n < 2 ^ 63 → n % 2 ^ 64 ≡ n
 no_wrap n small = omega arith
 
-module _ {M : Type 0} (stands : Stands M) where
+module _ {M : Type 0} (rules : Rules) (stands : Stands M) where
   -- what a step at the word i owes, where the words are ws
   abbrev pub Goes : ℕ → Config → Table M → ℕ → (ℕ → ℕ) → ℕ → Seated M → (ℕ → Seated M → Type 0) → List ℕ → Type 0
   Goes actors config s i f id m then ws = (w : View) × (a : Act (Option M)) × Valid s.homes m.1 a
-      × FollowsRule stands actors config (record { words = set ws i (f (get_or ws i 0)); homes = homes_after s.homes m.1 a; views = set s.views id w })
+      × FollowsRule rules stands actors config (record { words = set ws i (f (get_or ws i 0)); homes = homes_after s.homes m.1 a; views = set s.views id w })
       × then (get_or ws i 0) (w, carried_after m.1 a)
 
   -- one seat at most has the machine
-  busy_few : (actors : ℕ) (config : Config) (s : Table M) (k : FollowsRule stands actors config s) → total busy s.views ≤ total (has k.serving) s.views
+  busy_few : (actors : ℕ) (config : Config) (s : Table M) (k : FollowsRule rules stands actors config s) → total busy s.views ≤ total (has k.serving) s.views
   busy_few actors config s k = total_mono busy (has k.serving) s.views (λ j v e. busy_phase_has k.serving k.log v.seen v.phase (k.seats j v e).phase)
 
   pub draws_kept : (actors : ℕ) (config : Config) (n id : ℕ) (m : Seated M) → m.0.phase ≡ Idle → 0 < m.0.left
-      → Allows (FollowsRule stands actors config) n id m 0 (λ x. (x + 1) % 2 ^ 64) (draws (step n 0 1 0 none) m)
+      → Allows (FollowsRule rules stands actors config) n id m 0 (λ x. (x + 1) % 2 ^ 64) (draws (step n 0 1 0 none) m)
   draws_kept actors config n id m idle some_left s k long at _ =
       let v : View = m.0 in
       let w : View = drawn v k.ticket in
@@ -112,7 +113,7 @@ module _ {M : Type 0} (stands : Stands M) where
       )
 
   -- the seat whose ticket is served sees the whole history, and takes the machine
-  served_now : (actors : ℕ) (config : Config) (n id : ℕ) (m : Seated M) (t : ℕ) → m.0.phase ≡ Drawn t → (s : Table M) (k : FollowsRule stands actors config s)
+  served_now : (actors : ℕ) (config : Config) (n id : ℕ) (m : Seated M) (t : ℕ) → m.0.phase ≡ Drawn t → (s : Table M) (k : FollowsRule rules stands actors config s)
       → length s.homes ≡ n → get_elem? s.views id ≡ some m.0 → k.serving ≡ t
       → Goes actors config s 1 (λ x. x) id m (looks stands (step n 1 0 0 none) m) (k.ticket ∷ k.serving ∷ length k.log ∷ [])
   served_now actors config n id m t waits s k long at here =
@@ -184,29 +185,29 @@ module _ {M : Type 0} (stands : Stands M) where
       le_or_lt a b = dite (dec_le a b) (λ h. inl h) (λ h. inr (omega arith))
 
   -- a look that changes nothing
-  not_yet : (actors : ℕ) (config : Config) (n id : ℕ) (m : Seated M) (t : ℕ) → m.0.phase ≡ Drawn t → (s : Table M) (k : FollowsRule stands actors config s)
+  not_yet : (actors : ℕ) (config : Config) (n id : ℕ) (m : Seated M) (t : ℕ) → m.0.phase ≡ Drawn t → (s : Table M) (k : FollowsRule rules stands actors config s)
       → get_elem? s.views id ≡ some m.0 → k.serving ≢ t
       → Goes actors config s 1 (λ x. x) id m (looks stands (step n 1 0 0 none) m) (k.ticket ∷ k.serving ∷ length k.log ∷ [])
   not_yet actors config n id m t waits s k at other =
-      let same : FollowsRule stands actors config (record { words = k.ticket ∷ k.serving ∷ length k.log ∷ []; homes = s.homes; views = s.views }) =
-      subst (λ (ws : List ℕ). FollowsRule stands actors config (record { words = ws; homes = s.homes; views = s.views })) k.words k in (
+      let same : FollowsRule rules stands actors config (record { words = k.ticket ∷ k.serving ∷ length k.log ∷ []; homes = s.homes; views = s.views }) =
+      subst (λ (ws : List ℕ). FollowsRule rules stands actors config (record { words = ws; homes = s.homes; views = s.views })) k.words k in (
         m.0,
         keeps,
         tt,
-        subst (λ (vs : List View). FollowsRule stands actors config (record { words = k.ticket ∷ k.serving ∷ length k.log ∷ []; homes = s.homes; views = vs }))
+        subst (λ (vs : List View). FollowsRule rules stands actors config (record { words = k.ticket ∷ k.serving ∷ length k.log ∷ []; homes = s.homes; views = vs }))
             (sym (set_again s.views id m.0 at)) same,
         ((λ e. absurd (other (e ∙ ap ticket_of waits))), λ _. refl),
       )
 
   pub looks_kept : (actors : ℕ) (config : Config) (n id : ℕ) (m : Seated M) (t : ℕ) → m.0.phase ≡ Drawn t
-      → Allows (FollowsRule stands actors config) n id m 1 (λ x. x) (looks stands (step n 1 0 0 none) m)
+      → Allows (FollowsRule rules stands actors config) n id m 1 (λ x. x) (looks stands (step n 1 0 0 none) m)
   looks_kept actors config n id m t waits s k long at _ =
       subst (Goes actors config s 1 (λ x. x) id m (looks stands (step n 1 0 0 none) m)) (sym k.words)
       (dite (ℕ_discrete k.serving t) (λ e. served_now actors config n id m t waits s k long at e) (λ ne. not_yet actors config n id m t waits s k at ne))
 
   pub appends_kept : (actors : ℕ) (config : Config) (n id : ℕ) (m : Seated M) (e : Turn) (t : ℕ) → m.0.phase ≡ Busy t → 0 < mine e.actor m.0
-      → (config' : Config) × (m.0.config ≡ Some config') × IsLegal config' (e ∷ m.0.seen)
-      → Allows (FollowsRule stands actors config) n id m 2 (λ x. (x + 1) % 2 ^ 64) (appends e (step n 2 1 0 none) m)
+      → (config' : Config) × (m.0.config ≡ Some config') × IsLegal rules config' (e ∷ m.0.seen)
+      → Allows (FollowsRule rules stands actors config) n id m 2 (λ x. (x + 1) % 2 ^ 64) (appends e (step n 2 1 0 none) m)
   appends_kept actors config n id m e t turn some_of accepted s k long at _ =
       let v : View = m.0 in
       let me = k.seats id v at in
@@ -275,14 +276,14 @@ module _ {M : Type 0} (stands : Stands M) where
           given = λ x from. omega (arith, moved (holds_number x), k.given x from);
           unmade = λ x from. by_none x k.log e (λ same. let z : holds_number e.actor v ≡ holds_number x v = ap (λ (y : ℕ). holds_number y v) same in
               omega (arith, term_le (holds_number x) s.views id v at, k.given x from)) ∙ k.unmade x from;
-          legal = subst (λ (z : Config × History). IsLegal z.0 z.1) (λ i. (me.told_config accepted.0 accepted.1 i, whole i)) accepted.2;
+          legal = subst (λ (z : Config × History). IsLegal rules z.0 z.1) (λ i. (me.told_config accepted.0 accepted.1 i, whole i)) accepted.2;
         },
         (ap length (sym fits.0), refl),
       )
 
   -- a seat that has the machine gives it back as it stands for the history, and the next ticket is served
   passes_at : (actors : ℕ) (config : Config) (id : ℕ) (v : View) (machine : M) (config' : Config) → busy v ≡ 1 → v.config ≡ Some config'
-      → stands machine config' v.seen → Allows (FollowsRule stands actors config) 1 id (v, (0, Some machine) ∷ []) 1 (λ x. (x + 1) % 2 ^ 64)
+      → stands machine config' v.seen → Allows (FollowsRule rules stands actors config) 1 id (v, (0, Some machine) ∷ []) 1 (λ x. (x + 1) % 2 ^ 64)
       (passes (step 1 1 1 0 none) (v, (0, Some machine) ∷ []))
   passes_at actors config id v machine config' busy_now is standing s k long at _ =
       let m : Seated M = (v, (0, Some machine) ∷ []) in
@@ -343,25 +344,25 @@ module _ {M : Type 0} (stands : Stands M) where
       )
 
   pub passes_kept : (actors : ℕ) (config : Config) (id : ℕ) (m : Seated M) (machine : M) (config' : Config) → busy m.0 ≡ 1 → m.1 ≡ (0, Some machine) ∷ []
-      → m.0.config ≡ Some config' → stands machine config' m.0.seen → Allows (FollowsRule stands actors config) 1 id m 1 (λ x. (x + 1) % 2 ^ 64) (passes (step 1 1 1 0 none) m)
+      → m.0.config ≡ Some config' → stands machine config' m.0.seen → Allows (FollowsRule rules stands actors config) 1 id m 1 (λ x. (x + 1) % 2 ^ 64) (passes (step 1 1 1 0 none) m)
   passes_kept actors config id m machine config' busy_now held is standing =
       let v : View = m.0 in
       let same : (v, (0, Some machine) ∷ []) ≡ m = λ i. (v, sym held i) in
-      subst (λ (x : Seated M). Allows (FollowsRule stands actors config) 1 id x 1 (λ y. (y + 1) % 2 ^ 64) (passes (step 1 1 1 0 none) x)) same
+      subst (λ (x : Seated M). Allows (FollowsRule rules stands actors config) 1 id x 1 (λ y. (y + 1) % 2 ^ 64) (passes (step 1 1 1 0 none) x)) same
       (passes_at actors config id v machine config' busy_now is standing)
 
   pub counts_kept : (actors : ℕ) (config : Config) (n id : ℕ) (m : Seated M) → busy m.0 ≡ 1
-      → Allows (FollowsRule stands actors config) n id m 2 (λ x. x) (counts (step n 2 0 0 none) m)
+      → Allows (FollowsRule rules stands actors config) n id m 2 (λ x. x) (counts (step n 2 0 0 none) m)
   counts_kept actors config n id m busy_now s k long at _ =
       let me = k.seats id m.0 at in
       let fits = busy_fits k.serving k.log m.0.seen m.0.phase busy_now me.phase in
-      let same : FollowsRule stands actors config (record { words = k.ticket ∷ k.serving ∷ length k.log ∷ []; homes = s.homes; views = s.views }) =
-      subst (λ (ws : List ℕ). FollowsRule stands actors config (record { words = ws; homes = s.homes; views = s.views })) k.words k in
+      let same : FollowsRule rules stands actors config (record { words = k.ticket ∷ k.serving ∷ length k.log ∷ []; homes = s.homes; views = s.views }) =
+      subst (λ (ws : List ℕ). FollowsRule rules stands actors config (record { words = ws; homes = s.homes; views = s.views })) k.words k in
       subst (Goes actors config s 2 (λ x. x) id m (counts (step n 2 0 0 none) m)) (sym k.words) (
         m.0,
         keeps,
         tt,
-        subst (λ (vs : List View). FollowsRule stands actors config (record { words = k.ticket ∷ k.serving ∷ length k.log ∷ []; homes = s.homes; views = vs }))
+        subst (λ (vs : List View). FollowsRule rules stands actors config (record { words = k.ticket ∷ k.serving ∷ length k.log ∷ []; homes = s.homes; views = vs }))
             (sym (set_again s.views id m.0 at)) same,
         (refl, ap length (sym fits.0)),
       )

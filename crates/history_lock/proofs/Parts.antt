@@ -10,6 +10,7 @@ use Rattle.bay_model.specs.Answers.{History}
 use Rattle.sv_base.specs.declared.config.Config.{Config}
 use Rattle.history_lock.specs.declared.view.View.{View}
 use Rattle.history_lock.specs.declared.view.Phase.TheVariants.{Idle}
+use Rattle.bay_histories.specs.Rules.{Rules}
 use Rattle.bay_histories.specs.Histories.{IsEarlier, by, IsLegal}
 use Rattle.history_lock.specs.Views.{Stands, total, has, has_phase, busy, busy_phase, added, added_phase, inside, mine, aside_of, holds_number, left_of}
 use Rattle.history_lock.specs.Rule.{FollowsRule, Fits, FitsPhase, Table, whole, spent}
@@ -71,9 +72,9 @@ longer_fits log xs ys p q =
     subst G (sym (ap (λ b. cond b ys xs) (lt-ltb (length xs) (length ys) (omega arith))))
     (q, r, earlier_self ys, (λ k e. by_between k xs ys log r q e), (λ k e. e)))
 
-module _ {M : Type 0} (stands : Stands M) where
+module _ {M : Type 0} (rules : Rules) (stands : Stands M) where
   pub opens : (actors : ℕ) (config : Config) (machine : M) → stands machine config []
-      → FollowsRule stands actors config (opening (0 ∷ 0 ∷ 0 ∷ []) (Some machine ∷ []) (whole actors config))
+      → FollowsRule rules stands actors config (opening (0 ∷ 0 ∷ 0 ∷ []) (Some machine ∷ []) (whole actors config))
   opens actors config machine begins = record {
     ticket = 0;
     serving = 0;
@@ -111,7 +112,7 @@ module _ {M : Type 0} (stands : Stands M) where
 
   -- the last n numbers and some turns go to a new seat
   pub splits_kept : (actors : ℕ) (config : Config) (id : ℕ) (v : View) (low count n turns : ℕ) (others : List (ℕ × ℕ)) → v.ranges ≡ (low, count) ∷ others
-      → n ≤ count → turns ≤ v.left → Splits (FollowsRule stands actors config) id v (kept_part n turns v) (cut_part n turns v)
+      → n ≤ count → turns ≤ v.left → Splits (FollowsRule rules stands actors config) id v (kept_part n turns v) (cut_part n turns v)
   splits_kept actors config id v low count n turns others first fits enough s k at =
       let l : View = kept_part n turns v in
       let r : View = cut_part n turns v in
@@ -167,7 +168,7 @@ module _ {M : Type 0} (stands : Stands M) where
       }
 
   pub joins_kept : (actors : ℕ) (config : Config) (id : ℕ) (v : View) (other : ℕ) (w : View) → v.phase ≡ Idle → w.phase ≡ Idle → v.aside ≡ []
-      → Joins (FollowsRule stands actors config) id v other w (joined v w) spent
+      → Joins (FollowsRule rules stands actors config) id v other w (joined v w) spent
   joins_kept actors config id v other w idle idle' none_aside s k at apart there =
       let b : View = joined v w in
       let views : List View = set (set s.views id b) other spent in
@@ -216,7 +217,7 @@ module _ {M : Type 0} (stands : Stands M) where
       }
 
   pub compares_kept : (actors : ℕ) (config : Config) (n id : ℕ) (m : Seated M) → m.0.phase ≡ Idle
-      → Allows (FollowsRule stands actors config) n id m 0 (λ x. x) (compares (step n 0 0 0 none) m)
+      → Allows (FollowsRule rules stands actors config) n id m 0 (λ x. x) (compares (step n 0 0 0 none) m)
   compares_kept actors config n id m idle s k long at _ =
       let v : View = m.0 in
       let w : View = settled v in
@@ -224,7 +225,7 @@ module _ {M : Type 0} (stands : Stands M) where
       let me = k.seats id v at in
       let f = longer_fits k.log v.seen v.told me.front me.back in
       let numbers : (x : ℕ) → mine x w ≡ mine x v + aside_of x v = λ x. total-append (inside x) v.ranges v.aside in
-      subst (Goes stands actors config s 0 (λ x. x) id m (compares (step n 0 0 0 none) m)) (sym k.words) (
+      subst (Goes rules stands actors config s 0 (λ x. x) id m (compares (step n 0 0 0 none) m)) (sym k.words) (
         w,
         keeps,
         tt,
@@ -266,7 +267,7 @@ module _ {M : Type 0} (stands : Stands M) where
       )
 
   -- a new seat has seen the same, and has no number and no turn
-  pub witness_kept : (actors : ℕ) (config : Config) (id : ℕ) (v : View) → Splits (FollowsRule stands actors config) id v v (witness v)
+  pub witness_kept : (actors : ℕ) (config : Config) (id : ℕ) (v : View) → Splits (FollowsRule rules stands actors config) id v v (witness v)
   witness_kept actors config id v s k at =
       let r : View = witness v in
       let moved : (f : View → ℕ) → total f (set s.views id v ++ r ∷ []) ≡ total f s.views + f r =
@@ -314,13 +315,13 @@ module _ {M : Type 0} (stands : Stands M) where
       (λ gt. inr (earlier_shorter v.told v.seen log me.back me.front (omega arith)))
 
   pub hears_kept : (actors : ℕ) (config : Config) (n id : ℕ) (m : Seated M)
-      → Allows (FollowsRule stands actors config) n id m 0 (λ x. x) (hears (step n 0 0 0 none) m)
+      → Allows (FollowsRule rules stands actors config) n id m 0 (λ x. x) (hears (step n 0 0 0 none) m)
   hears_kept actors config n id m s k long at _ =
       let v : View = m.0 in
       let w : View = alone v in
       let moved : (f : View → ℕ) → total f (set s.views id w) + f v ≡ total f s.views + f w = λ f. total-set f s.views id v w at in
       let me = k.seats id v at in
-      subst (Goes stands actors config s 0 (λ x. x) id m (hears (step n 0 0 0 none) m)) (sym k.words) (
+      subst (Goes rules stands actors config s 0 (λ x. x) id m (hears (step n 0 0 0 none) m)) (sym k.words) (
         w,
         keeps,
         tt,
@@ -353,7 +354,7 @@ module _ {M : Type 0} (stands : Stands M) where
       )
 
   -- who has all numbers has seen the whole history
-  all_seen : (actors : ℕ) (config : Config) (s : Table M) (k : FollowsRule stands actors config s) (id : ℕ) (v : View) → get_elem? s.views id ≡ some v
+  all_seen : (actors : ℕ) (config : Config) (s : Table M) (k : FollowsRule rules stands actors config s) (id : ℕ) (v : View) → get_elem? s.views id ≡ some v
       → ((x : ℕ) → x < actors → 0 < mine x v) → v.seen ≡ k.log
   all_seen actors config s k id v at all =
       let me = k.seats id v at in
@@ -371,9 +372,9 @@ module _ {M : Type 0} (stands : Stands M) where
       nobody (e ∷ es) h = let one : e ∷ by e.actor es ≡ [] = sym (ap (λ b. cond b (e ∷ by e.actor es) (by e.actor es)) (eq-eqb e.actor e.actor refl))
           ∙ h e.actor in absurd (cc one)
 
-  pub closes : (actors : ℕ) (config : Config) (id : ℕ) (v : View) (ws : List ℕ) (xs : List (Option M)) → Final (Seen (FollowsRule stands actors config) id v) ws xs
+  pub closes : (actors : ℕ) (config : Config) (id : ℕ) (v : View) (ws : List ℕ) (xs : List (Option M)) → Final (Seen (FollowsRule rules stands actors config) id v) ws xs
       → (log : History) × (get_elem? ws 2 ≡ some (length log)) × IsEarlier v.seen log × (((x : ℕ) → x < actors → 0 < mine x v) → v.seen ≡ log)
-      × ((x : ℕ) → actors ≤ x → by x log ≡ []) × IsLegal config log
+      × ((x : ℕ) → actors ≤ x → by x log ≡ []) × IsLegal rules config log
   closes actors config id v ws xs f =
       let s = f.0 in
       let k = f.1.0 in

@@ -7,24 +7,18 @@ use Rattle.bay_model.specs.declared.answer.Answer.{Answer}
 use Rattle.bay_histories.specs.declared.fault.StepFault.{StepFault}
 use Rattle.bay_model.specs.Answers.{Turn, History}
 use Rattle.sv_base.specs.declared.config.Config.{Config}
-use Rattle.bay_model.specs.Named.{configured_model}
-use Rattle.bay_model.specs.declared.step.Step.TheVariants as steps
-use Rattle.bay_histories.specs.declared.fault.StepFault.TheVariants as stepfaults
-use Rattle.bay_histories.specs.Faults.{named}
-use Rattle.bay_histories.specs.Turns.{is_lean, KeepsLean}
-use Rattle.bay_model.specs.Answers.{answer}
+use Rattle.bay_histories.specs.Rules.{Rules}
 use Rattle.atomic_table.specs.declared.shared.Seat.{Seat}
 use Rattle.history_lock.specs.declared.fault.TurnFault.TheVariants as faults
 use Rattle.history_lock.specs.declared.history.Pass.TheInside.{Inside}
 use Rattle.history_lock.specs.declared.view.View.{View}
-use Rattle.bay_histories.specs.Histories.{IsEarlier, turn_of, by, IsRefused, answers_of, places_of}
+use Rattle.bay_histories.specs.Histories.{IsEarlier, turn_of, by, answers_of, places_of}
 use Rattle.history_lock.specs.Views.{total, inside, mine}
 use Rattle.history_lock.specs.Plays.{Seated, Others, joined, settled, Agree, Beside}
 use Rattle.history_lock.specs.Seats.{Took, at_rest, config_or, others_of, known}
-use Rattle.history_lock.specs.Passes.{Known, IsIn, InSome, HasNumber, OfOthers, Turned, later, own, is_process, Joined, told, placed, IsBehind}
+use Rattle.history_lock.specs.Passes.{Known, IsIn, InSome, HasNumber, OfOthers, Turned, later, own, Joined, told, placed, IsBehind}
 use Rattle.history_lock.proofs.Steps.{by-append, by_mine}
 use Rattle.history_lock.proofs.Parts.{inside_below, inside_within, inside_above}
-use Rattle.list_laws.proofs.Truths.{never-both}
 use Rattle.list_laws.proofs.Options.{none_chosen, not_chosen}
 
 pub counted : (k : ℕ) (rs : List (ℕ × ℕ)) → InSome k rs → 0 < total (inside k) rs
@@ -78,11 +72,11 @@ module _ {M : Type 0} where
     seen = is j;
   }
 
-  pub turned_ok : (i : Inside M) (s : Seat (Option M) View) (n moment : ℕ) (answer : Answer) (place : ℕ) (step : Step) → IsRest i → i.left ≢ 0
+  pub turned_ok : (rules : Rules) (i : Inside M) (s : Seat (Option M) View) (n moment : ℕ) (answer : Answer) (place : ℕ) (step : Step) → IsRest i → i.left ≢ 0
       → s.table_id ≡ i.seat.table_id
-      → Took (config_or i.seat.me.0.config) i.seat.me (turn_of moment i.first step) (Ok (answer, place)) s.me
-      → Turned (known_of i) moment step (Ok (answer, place)) (known_of (after i s n))
-  turned_ok i s n moment answer place step rest some_left table t = (
+      → Took rules (config_or i.seat.me.0.config) i.seat.me (turn_of moment i.first step) (Ok (answer, place)) s.me
+      → Turned rules (known_of i) moment step (Ok (answer, place)) (known_of (after i s n))
+  turned_ok rules i s n moment answer place step rest some_left table t = (
     omega arith,
     t.0,
     not_ours i rest t.0 t.2,
@@ -95,11 +89,11 @@ module _ {M : Type 0} where
     ),
   )
 
-  pub turned_err : (i : Inside M) (s : Seat (Option M) View) (n moment : ℕ) (f : StepFault) (count : ℕ) (step : Step) → IsRest i → i.left ≢ 0
+  pub turned_err : (rules : Rules) (i : Inside M) (s : Seat (Option M) View) (n moment : ℕ) (f : StepFault) (count : ℕ) (step : Step) → IsRest i → i.left ≢ 0
       → s.table_id ≡ i.seat.table_id
-      → Took (config_or i.seat.me.0.config) i.seat.me (turn_of moment i.first step) (Err (f, count)) s.me
-      → Turned (known_of i) moment step (Err (faults.Step f)) (known_of (after i s n))
-  turned_err i s n moment f count step rest some_left table t = (
+      → Took rules (config_or i.seat.me.0.config) i.seat.me (turn_of moment i.first step) (Err (f, count)) s.me
+      → Turned rules (known_of i) moment step (Err (faults.Step f)) (known_of (after i s n))
+  turned_err rules i s n moment f count step rest some_left table t = (
     omega arith,
     t.0,
     not_ours i rest t.0 t.2,
@@ -167,34 +161,34 @@ mine_between p between some others = others p.first (inl (omega arith, omega ari
 own_between : (p : Known) (between : History) → 0 < p.count → OfOthers p between → by p.first (between ++ p.seen) ≡ own p
 own_between p between some others = by-append p.first between p.seen ∙ ap (λ (l : History). l ++ own p) (mine_between p between some others)
 
-pub own_ok : (p q : Known) (moment : ℕ) (answer : Answer) (place : ℕ) (step : Step) → 0 < p.count → Turned p moment step (Ok (answer, place)) q
+pub own_ok : (rules : Rules) (p q : Known) (moment : ℕ) (answer : Answer) (place : ℕ) (step : Step) → 0 < p.count → Turned rules p moment step (Ok (answer, place)) q
     → own q ≡ turn_of moment p.first step ∷ own p
-own_ok p q moment answer place step some t =
+own_ok rules p q moment answer place step some t =
     let e : Turn = turn_of moment p.first step in
     ap own t.3.0 ∙ (by_mine p.first (t.1 ++ p.seen) e refl ∙ ap (λ (l : History). e ∷ l) (own_between p t.1 some t.2))
 
-pub own_err : (p q : Known) (moment : ℕ) (f : StepFault) (step : Step) → 0 < p.count → Turned p moment step (Err (faults.Step f)) q → own q ≡ own p
-own_err p q moment f step some t = ap own t.3.0 ∙ own_between p t.1 some t.2
+pub own_err : (rules : Rules) (p q : Known) (moment : ℕ) (f : StepFault) (step : Step) → 0 < p.count → Turned rules p moment step (Err (faults.Step f)) q → own q ≡ own p
+own_err rules p q moment f step some t = ap own t.3.0 ∙ own_between p t.1 some t.2
 
 -- steps of others tell the actor nothing
-answers_skip : (c : Config) (k : ℕ) (between h : History) → by k between ≡ [] → answers_of c k (between ++ h) ≡ answers_of c k h
-answers_skip c k [] h none = refl
-answers_skip c k (e ∷ es) h none =
-    not_chosen (eqb e.actor k) e (by k es) (answer (configured_model c) (es ++ h) e ∷ answers_of c k (es ++ h)) (answers_of c k (es ++ h)) none
-    ∙ answers_skip c k es h (none_chosen (eqb e.actor k) e (by k es) none)
+answers_skip : (rules : Rules) (c : Config) (k : ℕ) (between h : History) → by k between ≡ [] → answers_of rules c k (between ++ h) ≡ answers_of rules c k h
+answers_skip rules c k [] h none = refl
+answers_skip rules c k (e ∷ es) h none =
+    not_chosen (eqb e.actor k) e (by k es) (rules.answer c (es ++ h) e ∷ answers_of rules c k (es ++ h)) (answers_of rules c k (es ++ h)) none
+    ∙ answers_skip rules c k es h (none_chosen (eqb e.actor k) e (by k es) none)
 
-pub told_ok : (p q : Known) (moment : ℕ) (answer : Answer) (place : ℕ) (step : Step) → 0 < p.count → Turned p moment step (Ok (answer, place)) q
-    → told q ≡ answer ∷ told p
-told_ok p q moment a place step some t =
+pub told_ok : (rules : Rules) (p q : Known) (moment : ℕ) (answer : Answer) (place : ℕ) (step : Step) → 0 < p.count → Turned rules p moment step (Ok (answer, place)) q
+    → told rules q ≡ answer ∷ told rules p
+told_ok rules p q moment a place step some t =
     let e : Turn = turn_of moment p.first step in
     let before : History = t.1 ++ p.seen in
-    let one : told (later p (e ∷ before)) ≡ answer (configured_model p.config) before e ∷ answers_of p.config p.first before =
-    ap (λ b. cond b (answer (configured_model p.config) before e ∷ answers_of p.config p.first before) (answers_of p.config p.first before))
+    let one : told rules (later p (e ∷ before)) ≡ rules.answer p.config before e ∷ answers_of rules p.config p.first before =
+    ap (λ b. cond b (rules.answer p.config before e ∷ answers_of rules p.config p.first before) (answers_of rules p.config p.first before))
     (eq-eqb p.first p.first refl) in
-    ap told t.3.0 ∙ (one ∙ (λ i. sym t.3.1 i ∷ answers_skip p.config p.first t.1 p.seen (mine_between p t.1 some t.2) i))
+    ap (told rules) t.3.0 ∙ (one ∙ (λ i. sym t.3.1 i ∷ answers_skip rules p.config p.first t.1 p.seen (mine_between p t.1 some t.2) i))
 
-pub told_err : (p q : Known) (moment : ℕ) (f : StepFault) (step : Step) → 0 < p.count → Turned p moment step (Err (faults.Step f)) q → told q ≡ told p
-told_err p q moment f step some t = ap told t.3.0 ∙ answers_skip p.config p.first t.1 p.seen (mine_between p t.1 some t.2)
+pub told_err : (rules : Rules) (p q : Known) (moment : ℕ) (f : StepFault) (step : Step) → 0 < p.count → Turned rules p moment step (Err (faults.Step f)) q → told rules q ≡ told rules p
+told_err rules p q moment f step some t = ap (told rules) t.3.0 ∙ answers_skip rules p.config p.first t.1 p.seen (mine_between p t.1 some t.2)
 
 places_skip : (k : ℕ) (between h : History) → by k between ≡ [] → places_of k (between ++ h) ≡ places_of k h
 places_skip k [] h none = refl
@@ -202,33 +196,14 @@ places_skip k (e ∷ es) h none =
     not_chosen (eqb e.actor k) e (by k es) (length (es ++ h) ∷ places_of k (es ++ h)) (places_of k (es ++ h)) none
     ∙ places_skip k es h (none_chosen (eqb e.actor k) e (by k es) none)
 
-pub placed_ok : (p q : Known) (moment : ℕ) (answer : Answer) (place : ℕ) (step : Step) → 0 < p.count → Turned p moment step (Ok (answer, place)) q
+pub placed_ok : (rules : Rules) (p q : Known) (moment : ℕ) (answer : Answer) (place : ℕ) (step : Step) → 0 < p.count → Turned rules p moment step (Ok (answer, place)) q
     → placed q ≡ place ∷ placed p
-placed_ok p q moment a place step some t =
+placed_ok rules p q moment a place step some t =
     let e : Turn = turn_of moment p.first step in
     let before : History = t.1 ++ p.seen in
     let one : placed (later p (e ∷ before)) ≡ length before ∷ places_of p.first before =
     ap (λ b. cond b (length before ∷ places_of p.first before) (places_of p.first before)) (eq-eqb p.first p.first refl) in
     ap placed t.3.0 ∙ (one ∙ (λ i. sym t.3.2 i ∷ places_skip p.first t.1 p.seen (mine_between p t.1 some t.2) i))
 
-pub placed_err : (p q : Known) (moment : ℕ) (f : StepFault) (step : Step) → 0 < p.count → Turned p moment step (Err (faults.Step f)) q → placed q ≡ placed p
-placed_err p q moment f step some t = ap placed t.3.0 ∙ places_skip p.first t.1 p.seen (mine_between p t.1 some t.2)
-
-no_fault : (f : StepFault) (step : Step) → is_lean step ≡ true → KeepsLean step (Err f) → named f ≡ None → ⊥
-no_fault (stepfaults.IsOpen a) step l k e = cc e
-no_fault (stepfaults.NotOpen a) step l k e = cc e
-no_fault (stepfaults.NotYours a) step l k e = cc e
-no_fault (stepfaults.QueueFull a) step l k e = cc e
-no_fault stepfaults.Memory step l k e = never-both (is_lean step) l k
-
-pub process_goes : (c : Config) (h : History) (moment actor : ℕ) (step : Step) (f : StepFault) → KeepsLean step (Err f)
-    → IsRefused c h (turn_of moment actor step) f → is_process step ≡ false
-process_goes c h moment actor (steps.Done n good) f k e = absurd (no_fault f (steps.Done n good) refl k e)
-process_goes c h moment actor (steps.Block n flag) f k e = absurd (no_fault f (steps.Block n flag) refl k e)
-process_goes c h moment actor steps.Tick f k e = absurd (no_fault f steps.Tick refl k e)
-process_goes c h moment actor (steps.Value settings) f k e = absurd (no_fault f (steps.Value settings) refl k e)
-process_goes c h moment actor (steps.Open a size writer owner) f k e = refl
-process_goes c h moment actor (steps.Ask a r) f k e = refl
-process_goes c h moment actor (steps.Write a b comp v) f k e = refl
-process_goes c h moment actor (steps.Take a) f k e = refl
-process_goes c h moment actor (steps.Lost a) f k e = refl
+pub placed_err : (rules : Rules) (p q : Known) (moment : ℕ) (f : StepFault) (step : Step) → 0 < p.count → Turned rules p moment step (Err (faults.Step f)) q → placed q ≡ placed p
+placed_err rules p q moment f step some t = ap placed t.3.0 ∙ places_skip p.first t.1 p.seen (mine_between p t.1 some t.2)

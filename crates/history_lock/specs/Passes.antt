@@ -1,14 +1,13 @@
 -- What a contract sees of a history and of a pass, and what the calls make of them.
-use Rattle.std.specs.Prelude.{ℕ, ◌≡◌, ◌≢◌, ◌+◌, ◌-◌, ◌<◌, ◌≤◌, ◌^◌, Bool, true, false, List, [], ◌∷◌, ◌++◌, length, Result, MatchResult, Ok, Err, ◌⊎◌}
+use Rattle.std.specs.Prelude.{ℕ, ◌≡◌, ◌≢◌, ◌+◌, ◌-◌, ◌<◌, ◌≤◌, ◌^◌, false, List, [], ◌∷◌, ◌++◌, length, Result, MatchResult, Ok, Err, ◌⊎◌}
 use Rattle.atomic_table.specs.Seated.{TableId}
 use Rattle.sv_base.specs.declared.config.Config.{Config}
 use Rattle.bay_model.specs.declared.answer.Answer.{Answer}
 use Rattle.bay_model.specs.declared.step.Step.{Step}
-use Rattle.bay_model.specs.declared.step.Step.TheVariants as steps
-use Rattle.bay_model.specs.Named.{configured_model}
-use Rattle.bay_model.specs.Answers.{History, answer}
+use Rattle.bay_model.specs.Answers.{History}
 use Rattle.bay_histories.specs.declared.fault.StepFault.TheVariants as stepfaults
-use Rattle.bay_histories.specs.Turns.{is_lean}
+use Rattle.bay_histories.specs.Rules.{Rules}
+use Rattle.bay_histories.specs.Turns.{is_lean, is_process}
 use Rattle.history_lock.specs.declared.fault.TurnFault.{TurnFault}
 use Rattle.history_lock.specs.declared.fault.TurnFault.TheVariants as faults
 use Rattle.bay_histories.specs.Histories.{IsEarlier, turn_of, by, answers_of, places_of, IsLegal, IsRefused}
@@ -83,15 +82,15 @@ abbrev pub later : Known → History → Known
 later p seen = record { table = p.table; config = p.config; first = p.first; count = p.count; joined = p.joined; left = p.left - 1; seen = seen }
 
 -- What a turn gives. Others made the steps between those that the pass had seen and its own. An accepted step is then the
--- newest, at the place that is answered, and its answer is the definitions' after all steps before it. A refused one adds
+-- newest, at the place that is answered, and its answer is the rules' after all steps before it. A refused one adds
 -- nothing, and the refusal's condition holds after these steps. Where no turn is left, nothing is done.
-abbrev pub Turned : Known → ℕ → Step → Result (Answer × ℕ) TurnFault → Known → Type 0
-Turned p moment step (Ok r) q = (0 < p.left) × (between : History) × OfOthers p between
+abbrev pub Turned : Rules → Known → ℕ → Step → Result (Answer × ℕ) TurnFault → Known → Type 0
+Turned rules p moment step (Ok r) q = (0 < p.left) × (between : History) × OfOthers p between
     × (let before = between ++ p.seen in let t = turn_of moment p.first step in
-    (q ≡ later p (t ∷ before)) × (r.0 ≡ answer (configured_model p.config) before t) × (r.1 ≡ length before) × IsLegal p.config (t ∷ before))
-Turned p moment step (Err faults.Ended) q = (p.left ≡ 0) × (q ≡ p)
-Turned p moment step (Err (faults.Step f)) q = (0 < p.left) × (between : History) × OfOthers p between
-    × (let before = between ++ p.seen in (q ≡ later p before) × IsRefused p.config before (turn_of moment p.first step) f × IsLegal p.config before)
+    (q ≡ later p (t ∷ before)) × (r.0 ≡ rules.answer p.config before t) × (r.1 ≡ length before) × IsLegal rules p.config (t ∷ before))
+Turned rules p moment step (Err faults.Ended) q = (p.left ≡ 0) × (q ≡ p)
+Turned rules p moment step (Err (faults.Step f)) q = (0 < p.left) × (between : History) × OfOthers p between
+    × (let before = between ++ p.seen in (q ≡ later p before) × IsRefused rules p.config before (turn_of moment p.first step) f × IsLegal rules p.config before)
 
 -- a pass of the same history, with the same numbers
 abbrev pub IsSamePass : Known → Known → Type 0
@@ -101,8 +100,8 @@ IsSamePass p q = (q.table ≡ p.table) × (q.config ≡ p.config) × (q.first �
 abbrev pub own : Known → History
 own p = by p.first p.seen
 
-abbrev pub told : Known → List Answer
-told p = answers_of p.config p.first p.seen
+abbrev pub told : Rules → Known → List Answer
+told rules p = answers_of rules p.config p.first p.seen
 
 abbrev pub placed : Known → List ℕ
 placed p = places_of p.first p.seen
@@ -111,8 +110,8 @@ placed p = places_of p.first p.seen
 abbrev pub OwnGrew : Known → ℕ → Step → Result (Answer × ℕ) TurnFault → Known → Type 0
 OwnGrew p moment step result q = MatchResult result (λ _. own q ≡ turn_of moment p.first step ∷ own p) (λ _. own q ≡ own p)
 
-abbrev pub ToldGrew : Known → Result (Answer × ℕ) TurnFault → Known → Type 0
-ToldGrew p result q = MatchResult result (λ r. told q ≡ r.0 ∷ told p) (λ _. told q ≡ told p)
+abbrev pub ToldGrew : Rules → Known → Result (Answer × ℕ) TurnFault → Known → Type 0
+ToldGrew rules p result q = MatchResult result (λ r. told rules q ≡ r.0 ∷ told rules p) (λ _. told rules q ≡ told rules p)
 
 abbrev pub PlacedGrew : Known → Result (Answer × ℕ) TurnFault → Known → Type 0
 PlacedGrew p result q = MatchResult result (λ r. placed q ≡ r.1 ∷ placed p) (λ _. placed q ≡ placed p)
@@ -122,15 +121,7 @@ abbrev pub IsLeanTurn : Step → Result (Answer × ℕ) TurnFault → Type 0
 IsLeanTurn step (Err (faults.Step stepfaults.Memory)) = is_lean step ≡ false
 IsLeanTurn step _ = Unit {0}
 
--- what the process does, and time that passes
-abbrev pub is_process : Step → Bool
-is_process (steps.Value settings) = true
-is_process (steps.Done k good) = true
-is_process (steps.Block k flag) = true
-is_process steps.Tick = true
-is_process _ = false
-
--- a turn with such a step is accepted, where the pass has a turn left
+-- a turn with what the process does, and with time that passes, is accepted, where the pass has a turn left
 abbrev pub IsProcessTurn : Step → Result (Answer × ℕ) TurnFault → Type 0
 IsProcessTurn step (Err (faults.Step f)) = is_process step ≡ false
 IsProcessTurn step _ = Unit {0}
@@ -150,13 +141,14 @@ pub record Joined (p q r : Known) : Type 0 where
 
 -- The pass q with the number k became another: it was split, made turns under another number, took in a pass, or was taken in.
 -- What it had seen of the steps of k is all that the other has seen of them.
-pub data Became (k : ℕ) (q : Known) : Known → Type 0 where
-  itself : HasNumber q k → Became k q q
-  was_split : (p r : Known) (numbers turns : ℕ) → Became k q p → (r ≡ kept_of p numbers turns) ⊎ (r ≡ new_of p numbers turns) → HasNumber r k → Became k q r
-  made_turn : (p r : Known) (moment : ℕ) (step : Step) (result : Result (Answer × ℕ) TurnFault) → Became k q p → p.first ≢ k → Turned p moment step result r
-      → Became k q r
-  took_in : (p o r : Known) → Became k q p → Joined p o r → Became k q r
-  was_taken_in : (p o r : Known) → Became k q o → Joined p o r → Became k q r
+pub data Became (rules : Rules) (k : ℕ) (q : Known) : Known → Type 0 where
+  itself : HasNumber q k → Became rules k q q
+  was_split : (p r : Known) (numbers turns : ℕ) → Became rules k q p → (r ≡ kept_of p numbers turns) ⊎ (r ≡ new_of p numbers turns) → HasNumber r k
+      → Became rules k q r
+  made_turn : (p r : Known) (moment : ℕ) (step : Step) (result : Result (Answer × ℕ) TurnFault) → Became rules k q p → p.first ≢ k
+      → Turned rules p moment step result r → Became rules k q r
+  took_in : (p o r : Known) → Became rules k q p → Joined p o r → Became rules k q r
+  was_taken_in : (p o r : Known) → Became rules k q o → Joined p o r → Became rules k q r
 
 -- ---- two passes that are compared
 

@@ -8,6 +8,7 @@ use Rattle.sv_base.specs.declared.config.Config.{Config}
 use Rattle.history_lock.specs.declared.view.View.{View}
 use Rattle.history_lock.specs.declared.view.Phase.{Phase}
 use Rattle.history_lock.specs.declared.view.Phase.TheVariants.{Idle, Drawn, Busy, Added}
+use Rattle.bay_histories.specs.Rules.{Rules}
 use Rattle.bay_histories.specs.Histories.{IsEarlier, by, IsLegal}
 use Rattle.history_lock.specs.Views.{Stands, view, total, has, busy, added, mine, aside_of, holds_number, left_of}
 
@@ -34,7 +35,7 @@ Table M = State (Option M) View
 abbrev pub AtHome : {M : Type 0} → Stands M → Config → Table M → History → Type 0
 AtHome {M} stands config s log = (machine : M) × (get_elem? s.homes 0 ≡ some (some (Some machine))) × stands machine config log
 
-pub record FollowsRule {M : Type 0} (stands : Stands M) (actors : ℕ) (config : Config) (s : Table M) : Type 0 where
+pub record FollowsRule {M : Type 0} (rules : Rules) (stands : Stands M) (actors : ℕ) (config : Config) (s : Table M) : Type 0 where
   pub ticket : ℕ
   pub serving : ℕ
   pub log : History
@@ -54,7 +55,7 @@ pub record FollowsRule {M : Type 0} (stands : Stands M) (actors : ℕ) (config :
   pub given : (k : ℕ) → actors ≤ k → total (holds_number k) s.views ≡ 0
   pub unmade : (k : ℕ) → actors ≤ k → by k log ≡ []
   -- each step of the history was accepted after those before it
-  pub legal : IsLegal config log
+  pub legal : IsLegal rules config log
 
 -- the first seat
 abbrev pub whole : ℕ → Config → View

@@ -3,10 +3,10 @@ use Rattle.std.specs.Prelude.{ℕ, ◌≡◌, ◌-◌, ◌<◌, ◌^◌, List, [
 use Rattle.atomic_table.specs.Seated.{TableId}
 use Rattle.sv_base.specs.declared.config.Config.{Config}
 use Rattle.bay_model.specs.declared.answer.Answer.{Answer}
-use Rattle.bay_model.specs.Named.{configured_model}
-use Rattle.bay_model.specs.Answers.{Turn, History, answer}
+use Rattle.bay_model.specs.Answers.{Turn, History}
 use Rattle.bay_histories.specs.declared.fault.StepFault.{StepFault}
 use Rattle.history_lock.specs.declared.view.Phase.TheVariants.{Idle}
+use Rattle.bay_histories.specs.Rules.{Rules}
 use Rattle.bay_histories.specs.Histories.{IsLegal, IsRefused}
 use Rattle.history_lock.specs.Views.{view, moved_to}
 use Rattle.history_lock.specs.Plays.{Seated, Others}
@@ -42,14 +42,14 @@ known table m first count left = record {
 }
 
 -- the turn of a seat: others made the steps between, and then this seat made its own, or was refused it
-abbrev pub Took : {M : Type 0} → Config → Seated M → Turn → Result (Answer × ℕ) (StepFault × ℕ) → Seated M → Type 0
-Took config m t result n =
+abbrev pub Took : {M : Type 0} → Rules → Config → Seated M → Turn → Result (Answer × ℕ) (StepFault × ℕ) → Seated M → Type 0
+Took rules config m t result n =
     MatchResult result
     (λ r. (between : History) × (n ≡ (moved_to m.0 (m.0.left - 1) Idle (t ∷ between ++ m.0.seen), [])) × Others m.0 between
-    × (r.0 ≡ answer (configured_model config) (between ++ m.0.seen) t) × (r.1 ≡ length (between ++ m.0.seen)) × (r.1 < 2 ^ 62)
-    × IsLegal config (t ∷ between ++ m.0.seen))
+    × (r.0 ≡ rules.answer config (between ++ m.0.seen) t) × (r.1 ≡ length (between ++ m.0.seen)) × (r.1 < 2 ^ 62)
+    × IsLegal rules config (t ∷ between ++ m.0.seen))
     (λ f. (between : History) × (n ≡ (moved_to m.0 (m.0.left - 1) Idle (between ++ m.0.seen), [])) × Others m.0 between
-    × IsRefused config (between ++ m.0.seen) t f.0 × (f.1 ≡ length (between ++ m.0.seen)) × IsLegal config (between ++ m.0.seen))
+    × IsRefused rules config (between ++ m.0.seen) t f.0 × (f.1 ≡ length (between ++ m.0.seen)) × IsLegal rules config (between ++ m.0.seen))
 
 -- what the machine answered
 abbrev pub step_result : Result (Answer × ℕ) (StepFault × ℕ) → Result Answer StepFault

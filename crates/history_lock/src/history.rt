@@ -164,11 +164,11 @@ impl<M: StateMachine> History<M> {
         requires fits { fits_in self.now.config step.now ≡ true }
         ensures same { IsSamePass pass.old pass.new }
         ensures own { OwnGrew pass.old moment step.now result pass.new }
-        ensures told { ToldGrew pass.old result pass.new }
+        ensures told { ToldGrew M.rules pass.old result pass.new }
         ensures placed { PlacedGrew pass.old result pass.new }
         ensures lean { IsLeanTurn step.now result }
         ensures process { IsProcessTurn step.now result }
-        ensures turn { Turned pass.old moment step.now result pass.new }
+        ensures turn { Turned M.rules pass.old moment step.now result pass.new }
     {
         if pass.left == 0 {
             return Err(TurnFault::Ended);
@@ -223,8 +223,8 @@ impl<M: StateMachine> History<M> {
     /// How many steps were accepted. Where passes of all numbers became this one, it has seen them all.
     pub fn close(self, pass: Pass<M>) -> u64
         requires { pass.table ≡ self.table }
-        ensures seen { (log : TheHistory) × (result ≡ length log) × IsEarlier pass.seen log × IsLegal self.config log }
-        ensures whole { (parts : ℕ → Known) → ((k : ℕ) → k < self.actors → Became k (parts k) pass)
+        ensures seen { (log : TheHistory) × (result ≡ length log) × IsEarlier pass.seen log × IsLegal M.rules self.config log }
+        ensures whole { (parts : ℕ → Known) → ((k : ℕ) → k < self.actors → Became M.rules k (parts k) pass)
             → (result ≡ length pass.seen) × IsShuffle self.actors (λ k. by k (parts k).seen) pass.seen }
     {
         let History {

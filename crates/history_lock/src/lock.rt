@@ -4,7 +4,7 @@ ghost use Rattle.std.specs.Prelude.{◌≡◌, ◌+◌, ◌^◌, ◌<◌, ◌≤
 ghost use Rattle.sv_base.specs.declared.config.Config.{Config};
 ghost use Rattle.object_model.specs.Fits.{fits as fits_in};
 ghost use Rattle.bay_model.specs.Answers.{History};
-ghost use Rattle.bay_histories.specs.Turns.{KeepsLean};
+ghost use Rattle.bay_histories.specs.Turns.{KeepsLean, KeepsProcess};
 ghost use Rattle.bay_histories.specs.Histories.{IsEarlier, by, turn_of, IsLegal};
 ghost use Rattle.history_lock.specs.Views.{mine, busy};
 ghost use Rattle.history_lock.specs.Rule.{whole};
@@ -116,7 +116,7 @@ impl<M: StateMachine> Lock<M> {
         requires table { seat.table_id ≡ self.table.shared.table_id }
         ensures { (log : History) × (result ≡ length log) × IsEarlier seat.me.0.seen log
             × (((k : ℕ) → k < self.table.shared.key.actors → 0 < mine k seat.me.0) → seat.me.0.seen ≡ log)
-            × ((k : ℕ) → self.table.shared.key.actors ≤ k → by k log ≡ []) × IsLegal self.table.shared.key.model log }
+            × ((k : ℕ) → self.table.shared.key.actors ≤ k → by k log ≡ []) × IsLegal M.rules self.table.shared.key.model log }
     {
         let Lock { table } = self;
         let mut closed = table.close_with(seat);
@@ -165,7 +165,7 @@ impl<M: StateMachine> Lock<M> {
         requires table { seat.old.table_id ≡ self.now.table.shared.table_id }
         requires turn { (t : ℕ) × (seat.old.me.0.phase ≡ Busy t) }
         requires mine { 0 < mine E.turn.actor seat.old.me.0 }
-        requires legal { (config : Config) × (seat.old.me.0.config ≡ Some config) × IsLegal config (E.turn ∷ seat.old.me.0.seen) }
+        requires legal { (config : Config) × (seat.old.me.0.config ≡ Some config) × IsLegal M.rules config (E.turn ∷ seat.old.me.0.seen) }
         ensures table { seat.new.table_id ≡ seat.old.table_id }
         ensures seat { (t : ℕ) → seat.old.me.0.phase ≡ Busy t → seat.new.me ≡ (extended seat.old.me.0 t E.turn, seat.old.me.1) }
         ensures place { result ≡ length seat.old.me.0.seen }
@@ -216,7 +216,8 @@ impl<M: StateMachine> Lock<M> {
         requires fits { fits_in (config_or seat.old.me.0.config) step.now ≡ true }
         ensures table { seat.new.table_id ≡ seat.old.table_id }
         ensures lean { KeepsLean step.now (step_result result) }
-        ensures turn { Took (config_or seat.old.me.0.config) seat.old.me (turn_of moment actor.0 step.now) result seat.new.me }
+        ensures process { KeepsProcess step.now (step_result result) }
+        ensures turn { Took M.rules (config_or seat.old.me.0.config) seat.old.me (turn_of moment actor.0 step.now) result seat.new.me }
     {
         let ticket = self.draw(seat);
         self.wait_turn(rt, seat, ticket);

@@ -13,7 +13,7 @@ pub struct Law<M: StateMachine> {
 impl<M: StateMachine> TableRule<Option<M>, View, About> for Law<M> {
     ghost use Rattle.history_lock.specs.Rule.{FollowsRule, whole};
 
-    ghost holds = { λ about s. FollowsRule M.stands about.actors about.model s };
+    ghost holds = { λ about s. FollowsRule M.rules M.stands about.actors about.model s };
 
     ghost first = { λ about. whole about.actors about.model };
 }

@@ -99,7 +99,7 @@ results_again s fits (t, are) = rw (eq-eqb s.element.tag 161 t, are_again is_res
 
 -- ---- what was read
 
-specification_found : (s : Spot) → IsBytes s.element.content → is_specification s ≡ true → IsSpecification s.element
+pub specification_found : (s : Spot) → IsBytes s.element.content → is_specification s ≡ true → IsSpecification s.element
 unfolding is_specification
 specification_found s fits h =
     let p = and_parts (eqb s.element.tag 160) (is_some (and_then (only_in (content_piece s)) access_at)) h in
@@ -108,7 +108,7 @@ specification_found s fits h =
     let row = only_found (content_piece s) b.0 b.1 in
     (eqb-true s.element.tag 160 p.0, b.0.element, row, access_octets a.0, access_found b.0 a.0 (only_bytes s.element.content b.0.element fits row) b.2)
 
-specification_again : (s : Spot) → IsBytes s.element.content → IsSpecification s.element → is_specification s ≡ true
+pub specification_again : (s : Spot) → IsBytes s.element.content → IsSpecification s.element → is_specification s ≡ true
 unfolding is_specification
 specification_again s fits (t, k, row, access, is) =
     let a = access_again (spot_in (content_piece s) k) access (only_bytes s.element.content k fits row) is in

@@ -9,6 +9,7 @@ pub mod VariableListLaws
 pub mod ServiceLaws
 pub mod RequestLaws
 pub mod AnswerLaws
+pub mod ResultLaws
 pub mod ReplyPartLaws
 pub mod ReplyLaws
 pub mod ReplyAgainLaws

@@ -14,6 +14,7 @@ pub mod RequestReading
 pub mod AskingOctets
 -- what a server sends
 pub mod Answer
+pub mod Results
 pub mod Reply
 pub mod ReplyReading
 pub mod ReplyOctets

@@ -65,7 +65,7 @@ fn access_in(content: &[u8]) -> bool
 
 /// Whether an element says what was read.
 #[tactic(auto, unfolding(crate::specs::Answer::is_specification))]
-fn specifies(field: &Tlv<'_>) -> bool
+pub(crate) fn specifies(field: &Tlv<'_>) -> bool
     ensures { result ≡ is_specification (spot field.now) }
 {
     field.tag == tags::SPECIFICATION_OF_RESULT && access_in(field.content)

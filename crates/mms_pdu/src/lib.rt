@@ -20,6 +20,7 @@ mod reject;
 pub mod reject_reasons;
 mod reply_view;
 mod report;
+mod results;
 mod service;
 mod variable;
 mod variable_lists;
@@ -42,7 +43,9 @@ pub use error::write_error;
 pub use reject::write_reject;
 pub use reply_view::{ReplyView, reply};
 pub use report::write_report;
+pub use results::{read_result, write_result};
 
 // What is promised of all of it.
 pub use laws::each_input_asks_one_thing;
 pub use read_back::{each_input_is_one_reply, replies_are_read_back, requests_are_read_back};
+pub use results::each_answer_says_one_result;

@@ -17,7 +17,7 @@ use Rattle.bay_model.specs.declared.tables.AttrRow.{AttrRow}
 use Rattle.name_leaves.specs.Attributes.{attr_rows, types_of}
 use Rattle.object_model.proofs.AttributeLaws.{rows-types}
 use Rattle.name_tree.specs.Nodes.{node_rows}
-use Rattle.object_model.specs.Fits.{step_fits, fits}
+use Rattle.object_model.specs.Fits.{attr_types, step_fits, fits}
 
 abbrev IsLine : AttrDef → Type 0
 IsLine a = IsSettable a.kind
@@ -41,13 +41,16 @@ of_control k = by (is_selected k)
     by true = All-cons IsSettable (types.Int 8) (types.Uint 32 ∷ types.Int 8 ∷ []) (inl refl) (All-cons IsSettable (types.Uint 32) (types.Int 8 ∷ []) (inr (inr (inl refl))) (All-cons IsSettable (types.Int 8) [] (inl refl) (All-nil IsSettable)))
     by false = All-cons IsSettable (types.Int 8) [] (inl refl) (All-nil IsSettable)
 
-pub of_controls : (ks : List CtlDef) → All IsSettable (flat_map (λ (k : CtlDef). map (λ (p : Parameter). p.kind) (parameters k)) ks)
+of_controls : (ks : List CtlDef) → All IsSettable (flat_map (λ (k : CtlDef). map (λ (p : Parameter). p.kind) (parameters k)) ks)
 of_controls [] = All-nil IsSettable
 of_controls (k ∷ ks) = All-append IsSettable (map (λ (p : Parameter). p.kind) (parameters k)) (flat_map (λ (k : CtlDef). map (λ (p : Parameter). p.kind) (parameters k)) ks) (of_control k) (of_controls ks)
 
+pub types-settable : (c : Config) → All IsLine c.attrs → All IsSettable (attr_types c)
+types-settable c h = All-append IsSettable (map (λ (a : AttrDef). a.kind) c.attrs) _ (of_lines c.attrs h)
+    (All-append IsSettable (flat_map (λ (k : CtlDef). map (λ (p : Parameter). p.kind) (parameters k)) c.controls) _ (of_controls c.controls) (of_lines (filter is_setting c.attrs) (of_settings c.attrs h)))
+
 pub settable : (c : Config) (rows : List AttrRow) → rows ≡ attr_rows c → All IsLine c.attrs → All IsSettable (types_of rows)
-settable c rows e h = subst (All IsSettable) (sym (ap types_of e ∙ rows-types c)) (All-append IsSettable (map (λ (a : AttrDef). a.kind) c.attrs) _ (of_lines c.attrs h)
-    (All-append IsSettable (flat_map (λ (k : CtlDef). map (λ (p : Parameter). p.kind) (parameters k)) c.controls) _ (of_controls c.controls) (of_lines (filter is_setting c.attrs) (of_settings c.attrs h))))
+settable c rows e h = subst (All IsSettable) (sym (ap types_of e ∙ rows-types c)) (types-settable c h)
 
 pub fits-is : (c model : Config) (rows : List NodeRow) (attrs : List AttrRow) (n b k : ℕ) (step : Step) → c ≡ model → rows ≡ node_rows c → attrs ≡ attr_rows c → n ≡ length rows → b ≡ length c.blocks → k ≡ length c.controls
     → step_fits (record { nodes = n; blocks = b; controls = k }) (types_of attrs) step ≡ fits model step

@@ -103,10 +103,11 @@ impl Model {
     ghost use Rattle.std.specs.List.{All};
     ghost use Rattle.sv_base.specs.declared.config.AttrDef.{AttrDef as AttrLine};
     ghost use Rattle.bay_rooms.specs.Slots.{IsSettable};
-    ghost use Rattle.object_model.specs.Fits.{fits as fits_in};
+    ghost use Rattle.object_model.specs.Fits.{fits as fits_in, attr_types};
     ghost use Rattle.name_tree.specs.Nodes.{node_rows};
     ghost use Rattle.name_tree.specs.Sorting.{variables_after};
     ghost use Rattle.object_model.specs.Tables.{node_named, node_type, set_rows, flags_of};
+    ghost use Rattle.name_leaves.specs.Attributes.{types_of};
     ghost use Rattle.name_leaves.specs.Seen.{role_seen};
     ghost use Rattle.name_leaves.specs.Leaves.{leaves, leaf_seen};
     ghost use Rattle.name_leaves.specs.Numbers.{number_in};
@@ -239,6 +240,14 @@ impl Model {
     {
         let stand = &self.tables.stands.as_slice()[node.0 as usize];
         stand.what
+    }
+
+    /// The rows of the attributes by their numbers. Their types are those that an `attr` line may have.
+    pub fn attr_rows(&self) -> &[AttrRow]
+        ensures types { types_of result.now ≡ attr_types self.now }
+        ensures settable { All IsSettable (attr_types self.now) }
+    {
+        self.rows.as_slice()
     }
 
     /// The trigger conditions of an attribute (IEC 61850-7-2, TriggerConditions).

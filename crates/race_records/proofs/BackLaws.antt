@@ -24,6 +24,7 @@ use Rattle.record_steps.specs.Resolved.{association_of, told_of}
 use Rattle.record_steps.specs.Told.{pass_to, turn}
 use Rattle.record_outcome.specs.Histories.{form_after, form_at, form_of, said_in, said, moment_after, moment_of, stepped, parts_in, steps_of, onto}
 use Rattle.record_outcome.specs.Texts.{parts_of, turns_of, turns_in, text_behind, text_of}
+use Rattle.bay_histories.specs.Rules.{bay_rules}
 use Rattle.bay_histories.specs.Histories.{by, IsShuffle}
 use Rattle.bay_histories.specs.Histories as histories
 use Rattle.script_lines.specs.Parties.{may_have}
@@ -201,13 +202,13 @@ module _ (p : Plan) (sound : IsSound p) where
     pub told : (l : StepLine) × (slice_get (lines_by t.actor) (length (by t.actor h)) ≡ Some l) × IsTold c t.actor (onto [] (texts (take (length (by t.actor h)) (lines_by t.actor)))) l newest.step
     told = told-at c t.actor [] (lines_by t.actor) (steps_by t.actor) (length (by t.actor h)) newest.step (told-all t.actor (script_of p t.actor) (sound.scripts t.actor)) newest.there
 
-    line-is : line_of book (made_from c h t) ≡ Some told.0
+    line-is : line_of book (made_from bay_rules c h t) ≡ Some told.0
     line-is = ap (λ ls. slice_get ls (length (by t.actor h))) (book-at p.scripts t.actor) ∙ told.1
 
   -- ---- what is read back
 
   abbrev written : History → List (List ℕ)
-  written h = merged book least_moment (made_of c h)
+  written h = merged book least_moment (made_of bay_rules c h)
 
   abbrev back : History → List (List ℕ)
   back h = onto [] (written h)
@@ -217,10 +218,10 @@ module _ (p : Plan) (sound : IsSound p) where
   so_far a h = onto [] (texts (take (length (by a h)) (lines_by a)))
 
   record IsBack (h : History) : Type 0 where
-    now : moment_of c (back h) ≡ was_after book least_moment (made_of c h)
+    now : moment_of c (back h) ≡ was_after book least_moment (made_of bay_rules c h)
     form : (a : ℕ) → form_at a (back h) ≡ form_at a (so_far a h)
     turns : turns_in (steps_of c (back h)) ≡ history_written h
-    text : text_of c (steps_of c (back h)) ≡ answered c book (made_of c h)
+    text : text_of c (steps_of c (back h)) ≡ answered c book (made_of bay_rules c h)
 
   first-shut : (h : History) → form_at 0 (so_far 0 h) ≡ shut
   first-shut h = ap (λ ls. form_at 0 (onto [] (texts (take (length (by 0 h)) ls)))) (none-first (script_of p 0) (sound.scripts 0)) ∙ empty (length (by 0 h)) where
@@ -239,7 +240,7 @@ module _ (p : Plan) (sound : IsSound p) where
     k = t.actor
 
     abbrev was : ℕ
-    was = was_after book least_moment (made_of c h)
+    was = was_after book least_moment (made_of bay_rules c h)
 
     abbrev before : List (List ℕ)
     before = onto (back h) (at_lines was l.moment)
@@ -252,7 +253,7 @@ module _ (p : Plan) (sound : IsSound p) where
 
     back-is : back (t ∷ h) ≡ l.text ∷ before
     back-is =
-        ap (onto []) (merged-push book least_moment (made_of c h) (made_from c h t) ∙ ap (λ o. written h ++ lines_behind was o) (line-is t h within))
+        ap (onto []) (merged-push book least_moment (made_of bay_rules c h) (made_from bay_rules c h t) ∙ ap (λ o. written h ++ lines_behind was o) (line-is t h within))
         ∙ (onto-append [] (written h) (at_lines was l.moment ++ l.text ∷ []) ∙ onto-append (back h) (at_lines was l.moment) (l.text ∷ []))
 
     said-so : IsSaid c before l k s
@@ -284,22 +285,22 @@ module _ (p : Plan) (sound : IsSound p) where
     told-alone : said_in c (form_in l.form) (line_at l.text) ≡ turn (actor_of k s.step) s.step
     told-alone = ap (said_in c (form_in l.form)) line-told.read ∙ line-told.told
 
-    answer-told : answer_to c (line_of book (made_from c h t)) (answer (configured_model c) h t) ≡ answer_texts.lines_of c (shape_of (form_in l.form)) s.step (answer (configured_model c) h t)
+    answer-told : answer_to c (line_of book (made_from bay_rules c h t)) (answer (configured_model c) h t) ≡ answer_texts.lines_of c (shape_of (form_in l.form)) s.step (answer (configured_model c) h t)
     answer-told =
         ap (λ o. answer_to c o (answer (configured_model c) h t)) (line-is t h within) ∙ ap (λ said. lines_told c (shape_of (form_in l.form)) said (answer (configured_model c) h t)) told-alone
 
-    text-more : text_of c (steps_of c (back (t ∷ h))) ≡ answered c book (made_of c (t ∷ h))
+    text-more : text_of c (steps_of c (back (t ∷ h))) ≡ answered c book (made_of bay_rules c (t ∷ h))
     text-more =
         ap (λ b. text_of c (steps_of c b)) back-is
         ∙ (ap (text_behind c) parts
         ∙ ((λ i. is.text i ++ answer_texts.lines_of c (shape_of (form_in l.form)) s.step (answer-is i))
-        ∙ (ap (λ o. answered c book (made_of c h) ++ o) (sym answer-told) ∙ sym (answered-push c book (made_of c h) (made_from c h t)))))
+        ∙ (ap (λ o. answered c book (made_of bay_rules c h) ++ o) (sym answer-told) ∙ sym (answered-push c book (made_of bay_rules c h) (made_from bay_rules c h t)))))
 
-    now-more : moment_of c (back (t ∷ h)) ≡ was_after book least_moment (made_of c (t ∷ h))
+    now-more : moment_of c (back (t ∷ h)) ≡ was_after book least_moment (made_of bay_rules c (t ∷ h))
     now-more =
         ap (moment_of c) back-is
         ∙ (ap (λ said. moment_after said (moment_of c before)) said-so.told
-        ∙ (here.now ∙ sym (was-push book least_moment (made_of c h) (made_from c h t) ∙ ap (moment_behind was) (line-is t h within))))
+        ∙ (here.now ∙ sym (was-push book least_moment (made_of bay_rules c h) (made_from bay_rules c h t) ∙ ap (moment_behind was) (line-is t h within))))
 
     so-far-more : so_far k (t ∷ h) ≡ l.text ∷ so_far k h
     so-far-more =
@@ -329,18 +330,18 @@ module _ (p : Plan) (sound : IsSound p) where
   reads-back (t ∷ h) within = back-more t h within (reads-back h (earlier t h within))
 
 -- each step that was made has its line, which tells a step
-answerable : (p : Plan) (sound : IsSound p) (h : History) → IsWithin p sound h → All (IsAnswerable p.config (book_of p)) (made_of p.config h)
+answerable : (p : Plan) (sound : IsSound p) (h : History) → IsWithin p sound h → All (IsAnswerable p.config (book_of p)) (made_of bay_rules p.config h)
 answerable p sound [] within = All-nil (IsAnswerable p.config (book_of p))
 answerable p sound (t ∷ h) within =
     let l = told p sound t h within in
     let s = newest p sound t h within in
-    All-push (IsAnswerable p.config (book_of p)) (made_of p.config h) (made_from p.config h t) (answerable p sound h (earlier p sound t h within)) (record {
+    All-push (IsAnswerable p.config (book_of p)) (made_of bay_rules p.config h) (made_from bay_rules p.config h t) (answerable p sound h (earlier p sound t h within)) (record {
       line = l.0;
       there = line-is p sound t h within;
       tells = (l.2.fit, actor_of t.actor s.step.step, s.step.step, ap (said_in p.config (form_in l.0.form)) l.2.read ∙ l.2.told);
     })
 
-pub made-answerable : (p : Plan) (h : History) → IsSound p → IsShuffle actors (plans.turns_of p) h → All (IsAnswerable p.config (book_of p)) (made_of p.config h)
+pub made-answerable : (p : Plan) (h : History) → IsSound p → IsShuffle actors (plans.turns_of p) h → All (IsAnswerable p.config (book_of p)) (made_of bay_rules p.config h)
 made-answerable p h sound shuffle = answerable p sound h (whole-within p sound h shuffle)
 
 -- so each has its line
@@ -351,9 +352,9 @@ lines-there c book (m ∷ ms) all =
     All-cons (HasLine book) m ms (ap is_some first.there) (lines-there c book ms (All-tail (IsAnswerable c book) m ms all))
 
 pub turns-back : (p : Plan) (h : History) → IsSound p → IsShuffle actors (plans.turns_of p) h
-    → turns_in (steps_of p.config (onto [] (merged (book_of p) least_moment (made_of p.config h)))) ≡ history_written h
+    → turns_in (steps_of p.config (onto [] (merged (book_of p) least_moment (made_of bay_rules p.config h)))) ≡ history_written h
 turns-back p h sound shuffle = (reads-back p sound h (whole-within p sound h shuffle)).turns
 
 pub text-back : (p : Plan) (h : History) → IsSound p → IsShuffle actors (plans.turns_of p) h
-    → text_of p.config (steps_of p.config (onto [] (merged (book_of p) least_moment (made_of p.config h)))) ≡ answered p.config (book_of p) (made_of p.config h)
+    → text_of p.config (steps_of p.config (onto [] (merged (book_of p) least_moment (made_of bay_rules p.config h)))) ≡ answered p.config (book_of p) (made_of bay_rules p.config h)
 text-back p h sound shuffle = (reads-back p sound h (whole-within p sound h shuffle)).text

@@ -9,7 +9,7 @@ use Rattle.bay_model.specs.declared.step.Step.{Step}
 use Rattle.bay_model.specs.declared.step.Step.TheVariants as steps
 use Rattle.bay_model.specs.Model.{Model}
 use Rattle.bay_model.specs.Named.{configured_model}
-use Rattle.bay_model.specs.Acceptance.{Fault, IsOpen, NotOpen, NotYours, QueueFull, fault}
+use Rattle.bay_model.specs.Acceptance.{Fault, IsOpen, NotOpen, NotYours, QueueFull, IsHistory, fault}
 use Rattle.bay_model.specs.Answers.{History, points}
 use Rattle.bay_model.specs.Waiting.{waiting_replies}
 use Rattle.bay_histories.specs.declared.fault.StepFault.{StepFault}
@@ -18,7 +18,8 @@ use Rattle.bay_histories.specs.Faults.{named}
 use Rattle.record_steps.specs.Forms.{is_shut}
 use Rattle.record_outcome.specs.Histories.{form_at, onto}
 use Rattle.bay_histories.specs.Histories as histories
-use Rattle.bay_histories.specs.Histories.{by, IsLegal, IsShuffle}
+use Rattle.bay_histories.specs.Rules.{bay_rules}
+use Rattle.bay_histories.specs.Histories.{by, IsShuffle}
 use Rattle.actor_scripts.specs.Stops.{StopsAt}
 use Rattle.actor_scripts.specs.Raced.{actors, beginnings, IsPart, AreParts}
 use Rattle.actor_scripts.specs.Scripts.{turns_onto, turns_by}
@@ -202,7 +203,7 @@ module _ (p : Plan) (sound : IsSound p) where
     exact : WritesNoOper model (there k) → full_line (book_of p) q ≡ beyond_in model k (there k)
     all : full_line (book_of p) q ≡ None → went q.fault ≡ true
 
-  module _ (h : History) (legal : IsLegal c h) (own : AreTheirOwn h) (s : Played) (q : Part) (is : IsPart c h s q) (mine : steps_in (there s.actor) ≡ s.steps.items) where
+  module _ (h : History) (legal : IsHistory model h) (own : AreTheirOwn h) (s : Played) (q : Part) (is : IsPart bay_rules c h s q) (mine : steps_in (there s.actor) ≡ s.steps.items) where
     abbrev k : ℕ
     k = s.actor
 
@@ -215,8 +216,8 @@ module _ (p : Plan) (sound : IsSound p) where
     own-before : AreTheirOwn before
     own-before = own-earlier before h is.earlier own
 
-    legal-before : IsLegal c before
-    legal-before = legal-earlier (configured_model c) before h is.earlier legal
+    legal-before : IsHistory model before
+    legal-before = legal-earlier model before h is.earlier legal
 
     made : by k before ≡ turns_by k (take n (steps_in (there k)))
     made = is.own ∙ ap (λ l. turns_by k (take n l)) (sym mine)
@@ -279,7 +280,7 @@ module _ (p : Plan) (sound : IsSound p) where
     abbrev Judged : Option StepFault → Type 0
     Judged g = ((line : ℕ) → full_by (book_of p) q g ≡ Some line → IsBeyondIn model k (there k) line) × (WritesNoOper model (there k) → full_by (book_of p) q g ≡ beyond_in model k (there k)) × (full_by (book_of p) q g ≡ None → went g ≡ true)
 
-    by-fault : (g : Option StepFault) → q.fault ≡ g → StopsAt c k s.steps.items n g before → wants_memory g ≡ false → Judged g
+    by-fault : (g : Option StepFault) → q.fault ≡ g → StopsAt bay_rules c k s.steps.items n g before → wants_memory g ≡ false → Judged g
     by-fault None g stops lean = (λ line e. absurd (cc e), went-whole stops, λ e. refl)
     by-fault (Some faults.Memory) g stops lean = absurd cc
     by-fault (Some (faults.QueueFull a)) g stops lean =
@@ -312,7 +313,7 @@ module _ (p : Plan) (sound : IsSound p) where
     exact : IsWithoutOpers p → full ps ≡ lowest_of (map role_of ss)
     went_ : full ps ≡ None → all_went ps ≡ true
 
-  all-verdicts : (h : History) → IsLegal c h → AreTheirOwn h → (ss : List Played) (ps : List Part) → AreParts c h ss ps → AllOfPlan (map role_of ss) → lacks_memory ps ≡ false → AreJudged ss ps
+  all-verdicts : (h : History) → IsHistory model h → AreTheirOwn h → (ss : List Played) (ps : List Part) → AreParts bay_rules c h ss ps → AllOfPlan (map role_of ss) → lacks_memory ps ≡ false → AreJudged ss ps
   all-verdicts h legal own [] [] are all lean = record { beyond = λ line e. absurd (cc e); exact = λ idle. refl; went_ = λ e. refl }
   all-verdicts h legal own [] (q ∷ qs) are all lean = absurd are
   all-verdicts h legal own (s ∷ ss) [] are all lean = absurd are

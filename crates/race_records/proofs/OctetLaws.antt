@@ -25,6 +25,7 @@ use Rattle.record_outcome.specs.Texts.{parts_of, text_behind}
 use Rattle.record_outcome.specs.Texts as texts
 use Rattle.record_outcome.specs.Records.{NoNewline}
 use Rattle.record_outcome.specs.Grammar.{IsInner, Each}
+use Rattle.bay_histories.specs.Rules.{bay_rules}
 use Rattle.actor_scripts.specs.Scripts.{made_of}
 use Rattle.actor_scripts.specs.declared.made.Made.{Made}
 use Rattle.actor_scripts.specs.declared.script.TimedStep.{TimedStep}
@@ -171,8 +172,8 @@ module _ (c : Config) (text : List ℕ) (is : IsText c text) (steps : List (List
 
 pub merged_are_read_back : MergedAreReadBack
 merged_are_read_back p h sound shuffle =
-    let steps = merged (book_of p) least_moment (made_of p.config h) in
-    let clean = merged-clean p sound least_moment (made_of p.config h) in
+    let steps = merged (book_of p) least_moment (made_of bay_rules p.config h) in
+    let clean = merged-clean p sound least_moment (made_of bay_rules p.config h) in
     record {
       recorded = back p.config p.text sound.text steps clean;
       history = whole-history p.config p.text sound.text steps clean;

@@ -1,6 +1,7 @@
 -- What comes of a race of a plan's scripts, where no turn found memory wanting.
 use Rattle.std.specs.Prelude.{◌≡◌, ◌==◌, ℕ, suc, true, false, List, [], ◌∷◌, ◌++◌, map, cond, Option, None, Some}
 use Rattle.bay_model.specs.Answers.{History}
+use Rattle.bay_histories.specs.Rules.{bay_rules}
 use Rattle.actor_scripts.specs.Raced.{IsRaced}
 use Rattle.actor_scripts.specs.declared.part.Part.{Part}
 use Rattle.actor_scripts.specs.declared.script.Script.{Script as Played}
@@ -47,4 +48,5 @@ pub record IsKnown (p : Plan) (ps : List Part) : Type 0 where
   pub went : lowest_full (book_of p) ps ≡ None → all_went ps ≡ true
 
 abbrev pub VerdictsAreKnown : Type 0
-VerdictsAreKnown = (p : Plan) (ss : List Played) (ps : List Part) (h : History) → IsSound p → AreScripts p ss → IsRaced p.config ss ps h → lacks_memory ps ≡ false → IsKnown p ps
+VerdictsAreKnown = (p : Plan) (ss : List Played) (ps : List Part) (h : History) → IsSound p → AreScripts p ss → IsRaced bay_rules p.config ss ps h
+    → lacks_memory ps ≡ false → IsKnown p ps

@@ -7,6 +7,7 @@ use Rattle.bay_model.specs.declared.answer.Answer.{Answer}
 use Rattle.bay_model.specs.declared.step.Step.{Step}
 use Rattle.bay_model.specs.Points.{least_moment}
 use Rattle.bay_model.specs.Answers.{History}
+use Rattle.bay_histories.specs.Rules.{bay_rules}
 use Rattle.answer_text.specs.Texts.{lines_of}
 use Rattle.stream_lines.specs.declared.shape.Shape.{Shape}
 use Rattle.run_record.specs.Judging.{line_at}
@@ -72,7 +73,7 @@ abbrev pub record_with : List ℕ → List (List ℕ) → List ℕ
 record_with text steps = codes "record 1" ++ 10 ∷ (text ++ (octets_of steps ++ (codes "end" ++ 10 ∷ [])))
 
 abbrev pub record_of : Plan → History → List ℕ
-record_of p h = record_with p.text (merged (book_of p) least_moment (made_of p.config h))
+record_of p h = record_with p.text (merged (book_of p) least_moment (made_of bay_rules p.config h))
 
 -- ---- the answers
 
@@ -90,7 +91,7 @@ answered c book [] = []
 answered c book (m ∷ ms) = answer_to c (line_of book m) m.answer ++ answered c book ms
 
 abbrev pub answers_to : Plan → History → List ℕ
-answers_to p h = answered p.config (book_of p) (made_of p.config h) ++ codes "end\n"
+answers_to p h = answered p.config (book_of p) (made_of bay_rules p.config h) ++ codes "end\n"
 
 -- the lines that stand in the code's lists
 abbrev pub book_seen : List (Vec StepLine Global) → Book

@@ -12,6 +12,7 @@ use Rattle.actor_scripts.specs.declared.made.Made.{Made}
 use Rattle.actor_scripts.specs.declared.part.Part.{Part as Given}
 use Rattle.script_threads.specs.declared.racing.Raced.{Raced}
 use Rattle.actor_scripts.specs.declared.script.Script.{Script as Part}
+use Rattle.bay_histories.specs.Rules.{bay_rules}
 use Rattle.script_plans.specs.Plans.{Plan}
 use Rattle.race_records.specs.Merged.{Book, book_of, merged, record_with, answered, IsAnswerable}
 use Rattle.race_records.proofs.BackLaws.{made-answerable}
@@ -29,13 +30,13 @@ module _ (p : Plan) (c : Config) (text : List ℕ) (book : Book) (ss : List Part
   abbrev parts : List Given
   parts = r.parts.items
 
-  raced : IsRaced p.config ss parts h
+  raced : IsRaced bay_rules p.config ss parts h
   raced = race.2
 
   pub many : r.total ≡ length h
   many = race.1
 
-  pub of-history : AreOf p.config h parts
+  pub of-history : AreOf bay_rules p.config h parts
   of-history = parts-of p.config h ss parts raced.parts_
 
   same-lowest : (o : Option ℕ) → lowest_full book parts ≡ o → lowest_full (book_of p) parts ≡ o
@@ -52,13 +53,13 @@ module _ (p : Plan) (c : Config) (text : List ℕ) (book : Book) (ss : List Part
     made-all none = made-whole p ss parts h is.turns raced ((verdicts_are_known p ss parts h is.sound is.scripts raced lean).went (same-lowest None none))
 
     -- each step that was made is answered
-    pub all-answerable : (made : List Made) → lowest_full book parts ≡ None → made ≡ made_of p.config h → All (IsAnswerable c book) made
+    pub all-answerable : (made : List Made) → lowest_full book parts ≡ None → made ≡ made_of bay_rules p.config h → All (IsAnswerable c book) made
     all-answerable made none made-is =
         subst (All (IsAnswerable c book)) (sym made-is)
-        (subst (λ k. All (IsAnswerable k book) (made_of p.config h)) is.config
-        (subst (λ b. All (IsAnswerable p.config b) (made_of p.config h)) is.book_ (made-answerable p h is.sound (made-all none).1)))
+        (subst (λ k. All (IsAnswerable k book) (made_of bay_rules p.config h)) is.config
+        (subst (λ b. All (IsAnswerable p.config b) (made_of bay_rules p.config h)) is.book_ (made-answerable p h is.sound (made-all none).1)))
 
-    pub goes : (made : List Made) (out : List ℕ) → lowest_full book parts ≡ None → made ≡ made_of p.config h
+    pub goes : (made : List Made) (out : List ℕ) → lowest_full book parts ≡ None → made ≡ made_of bay_rules p.config h
         → out ≡ record_with text (merged book least_moment made) ++ (answered c book made ++ codes "end\n") → Goes p out
     goes made out none made-is out-is = record {
       room = λ idle. sym ((verdicts_are_known p ss parts h is.sound is.scripts raced lean).exact idle) ∙ same-lowest None none;

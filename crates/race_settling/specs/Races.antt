@@ -3,6 +3,7 @@ use Rattle.std.specs.Prelude.{◌≡◌, ℕ, List, length, map}
 use Rattle.std.specs.List.{All}
 use Rattle.sv_base.specs.declared.config.Config.{Config}
 use Rattle.bay_model.specs.Answers.{History}
+use Rattle.bay_histories.specs.Rules.{bay_rules}
 use Rattle.actor_scripts.specs.Actors.{AreFalling, CanPlay}
 use Rattle.actor_scripts.specs.Raced.{IsRaced}
 use Rattle.script_threads.specs.declared.racing.Raced.{Raced}
@@ -25,4 +26,4 @@ pub record IsOfPlan (p : Plan) (c : Config) (text : List ℕ) (book : Book) (ss 
 
 -- what came of a race of these scripts
 abbrev pub IsOfRace : Config → List Part → Raced → Type 0
-IsOfRace c ss r = (h : History) × (r.total ≡ length h) × IsRaced c ss r.parts.items h
+IsOfRace c ss r = (h : History) × (r.total ≡ length h) × IsRaced bay_rules c ss r.parts.items h

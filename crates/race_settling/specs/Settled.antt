@@ -3,6 +3,7 @@ use Rattle.std.specs.Prelude.{◌≡◌, ℕ, List, ◌++◌, None, Some, Result
 use Rattle.std.specs.declared.alloc.Global.{Global}
 use Rattle.std.specs.Prelude.{Vec}
 use Rattle.bay_model.specs.Answers.{History}
+use Rattle.bay_histories.specs.Rules.{bay_rules}
 use Rattle.bay_histories.specs.Histories.{IsLegal, IsShuffle}
 use Rattle.record_outcome.specs.declared.status.Status.{Status}
 use Rattle.record_outcome.specs.declared.status.Status.TheVariants as statuses
@@ -18,7 +19,7 @@ use Rattle.race_records.specs.Verdicts.{lowest_full}
 
 -- threads made this history: each step was accepted after those before it, and it is a shuffle of the whole scripts of the plan
 abbrev pub IsMade : Plan → History → Type 0
-IsMade p h = IsLegal p.config h × IsShuffle actors (turns_of p) h
+IsMade p h = IsLegal bay_rules p.config h × IsShuffle actors (turns_of p) h
 
 -- the record that the scripts made in a history, and its answers; it is read back as that history
 pub record IsWritten (p : Plan) (octets : List ℕ) : Type 0 where
@@ -43,7 +44,7 @@ pub record MeetsFull (p : Plan) (line : ℕ) : Type 0 where
   pub scripts : List Part_
   pub are : AreScripts p scripts
   pub parts : List Part
-  pub raced : IsRaced p.config scripts parts history
+  pub raced : IsRaced bay_rules p.config scripts parts history
   pub lowest : lowest_full (book_of p) parts ≡ Some line
 
 -- the performance of a plan: its record, or the status with which it ends

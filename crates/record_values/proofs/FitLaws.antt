@@ -1,14 +1,13 @@
 -- The settings that a line tells fit the configuration: each is of an attribute that is there, and of its type.
-use Rattle.std.proofs.Common.{◌≡◌, ℕ, ◌≤◌, inl, inr, true, List, [], ◌∷◌, ◌++◌, map, refl, sym, ap, subst, ◌∙◌, arith}
+use Rattle.std.proofs.Common.{◌≡◌, ℕ, ◌≤◌, inl, inr, true, List, [], ◌∷◌, ◌++◌, refl, sym, ap, subst, ◌∙◌, arith}
 use Rattle.std.specs.Prelude.{Option, None, Some, slice_get}
 use Rattle.std.specs.Option.{option_map, option_and_then}
 use Rattle.std.specs.List.{All, list_all}
 use Rattle.std.proofs.lemmas.Bool.{and_from}
 use Rattle.std.proofs.lemmas.Bool.Decides.{nat_tests}
 use Rattle.std.proofs.lemmas.List.Folds.{list_all-append}
-use Rattle.std.proofs.lemmas.Option.{slice_get-map, slice_get_within, get_or_from_slice_get}
+use Rattle.std.proofs.lemmas.Option.{slice_get_within, get_or_from_slice_get}
 use Rattle.sv_base.specs.declared.config.Config.{Config}
-use Rattle.sv_base.specs.declared.config.AttrDef.{AttrDef}
 use Rattle.sv_base.specs.declared.types.TypeOf.{TypeOf}
 use Rattle.sv_base.specs.declared.types.TypeOf.TheVariants as types
 use Rattle.sv_base.specs.declared.value.Value.{Value}
@@ -27,7 +26,6 @@ use Rattle.text_words.proofs.ReadWordLaws.{value-tells}
 use Rattle.text_values.proofs.ValueLaws.{of-kind, sound, in-range}
 use Rattle.run_record.specs.declared.pairs.Pair.{Pair}
 use Rattle.record_values.specs.Settings.{number_at, typed_at, setting, setting_of, setting_at, behind_those, settings_from, settings_at}
-use Rattle.list_laws.proofs.Places.{in-front}
 
 uint-64 : (n : ℕ) → n ≤ greatest 64 → is_in_range (kind_of (types.Uint 64)) (values.Uint n) ≡ true
 uint-64 n h = grind (arith, nat_tests)
@@ -46,19 +44,18 @@ in-reach (types.Text most) (values.Text o) t h = grind (arith, nat_tests)
 in-reach (types.Octets most) (values.Octets o) t h = grind (arith, nat_tests)
 in-reach _ _ t h = absurd h
 
-module _ (c : Config) (settable : All (λ (a : AttrDef). IsSettable a.kind) c.attrs) where
+module _ (c : Config) (settable : All IsSettable (attr_types c)) where
   abbrev AreFit : List Setting → Type 0
   AreFit ss = list_all (setting_fits (attr_types c)) ss ≡ true
 
   typed-fits : (word : List ℕ) (x : ℕ) (v : Value) → typed_at c word x ≡ Some v → setting_fits (attr_types c) (setting x v) ≡ true
-  typed-fits word x v is = by (slice_get c.attrs x) refl is where
-    by : (o : Option AttrDef) → slice_get c.attrs x ≡ o → option_and_then (λ (a : AttrDef). value_at a.kind word) o ≡ Some v → setting_fits (attr_types c) (setting x v) ≡ true
+  typed-fits word x v is = by (slice_get (attr_types c) x) refl is where
+    by : (o : Option TypeOf) → slice_get (attr_types c) x ≡ o → option_and_then (λ (kind : TypeOf). value_at kind word) o ≡ Some v → setting_fits (attr_types c) (setting x v) ≡ true
     by None there is = absurd cc
-    by (Some a) there is =
-        let of = (value-tells a.kind word v is).0 in
-        let kind : slice_get (attr_types c) x ≡ Some a.kind = in-front (map (λ (a : AttrDef). a.kind) c.attrs) _ x a.kind (slice_get-map (λ (a : AttrDef). a.kind) c.attrs x ∙ ap (option_map (λ (a : AttrDef). a.kind)) there) in
-        let type : IsSettable a.kind = subst (λ (a : AttrDef). IsSettable a.kind) (get_or_from_slice_get c.attrs x a a there) (settable x a (slice_get_within c.attrs x a there)) in
-        and_from _ _ (ap (λ o. is_typed o v) kind ∙ and_from _ _ (of-kind a.kind v of) (in-reach a.kind v type of)) (sound a.kind v of)
+    by (Some kind) there is =
+        let of = (value-tells kind word v is).0 in
+        let type : IsSettable kind = subst IsSettable (get_or_from_slice_get (attr_types c) x kind kind there) (settable x kind (slice_get_within (attr_types c) x kind there)) in
+        and_from _ _ (ap (λ o. is_typed o v) there ∙ and_from _ _ (of-kind kind v of) (in-reach kind v type of)) (sound kind v of)
 
   one-fits : (p : Pair) (s : Setting) → setting_at c p ≡ Some s → setting_fits (attr_types c) s ≡ true
   one-fits p s is = by (number_at c p) is where

@@ -3,11 +3,12 @@ use Rattle.std.specs.Prelude.{◌≡◌, ℕ, Bool, true, false, List, [], ◌�
 use Rattle.std.specs.Option.{option_map, option_and_then}
 use Rattle.std.specs.List.{list_all}
 use Rattle.sv_base.specs.declared.config.Config.{Config}
-use Rattle.sv_base.specs.declared.config.AttrDef.{AttrDef}
+use Rattle.sv_base.specs.declared.types.TypeOf.{TypeOf}
 use Rattle.sv_base.specs.declared.value.Value.{Value}
 use Rattle.bay_model.specs.declared.step.Setting.{Setting}
 use Rattle.text_words.specs.Values.{value_at}
 use Rattle.name_leaves.specs.Numbers.{number_in}
+use Rattle.object_model.specs.Fits.{attr_types}
 use Rattle.object_model.specs.References.{attr_references}
 use Rattle.run_record.specs.declared.pairs.Pair.{Pair}
 
@@ -18,9 +19,12 @@ number_at c pair = number_in (attr_references c) pair.name
 abbrev pub are_named : Config → List Pair → Bool
 are_named c pairs = list_all (λ (p : Pair). is_some (number_at c p)) pairs
 
--- the value that a word spells of the type of attribute x, which has a line of its own
+-- the value that a word spells of the type of attribute x, where the attributes have these types
+abbrev pub typed_in : List TypeOf → List ℕ → ℕ → Option Value
+typed_in types word x = option_and_then (λ (kind : TypeOf). value_at kind word) (slice_get types x)
+
 abbrev pub typed_at : Config → List ℕ → ℕ → Option Value
-typed_at c word x = option_and_then (λ (a : AttrDef). value_at a.kind word) (slice_get c.attrs x)
+typed_at c word x = typed_in (attr_types c) word x
 
 abbrev pub setting : ℕ → Value → Setting
 setting x v = record { attr = record { 0 = x }; value = v }

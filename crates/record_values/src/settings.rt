@@ -1,15 +1,17 @@
 //! The settings of the process, by the references of attributes.
 
 ghost use Rattle.std.specs.Prelude.{◌≡◌, IfOk};
+ghost use Rattle.name_leaves.specs.Attributes.{types_of};
 ghost use Rattle.run_record.specs.Seen.{pairs_seen};
-ghost use Rattle.record_values.specs.Settings.{typed_at, IsPut};
+ghost use Rattle.record_values.specs.Settings.{typed_in, IsPut};
 ghost use Rattle.record_values.specs.Found.{AreFound, IsFitting};
 
-use bay_model::Setting;
+use bay_model::{AttrRow, Setting};
 use object_model::Model;
 use run_record::PairsView;
 use std::alloc::{AllocError, Global};
-use sv_base::{AttrId, Config, TypeOf, Value};
+use step_fitting::row_at;
+use sv_base::{AttrId, TypeOf, Value};
 use text_words::{int, truth};
 
 /// What the pairs of a line are: references of attributes, each with the text of a value.
@@ -37,22 +39,21 @@ fn put(settings: &mut Vec<Setting>, attr: AttrId, value: Option<Value>) -> Resul
     }
 }
 
-/// Puts the setting of an attribute behind others, where a text spells a value of its type and it has a line of its own; tells
-/// whether that is so.
+/// Puts the setting of an attribute behind others, where a text spells a value of its type; tells whether that is so.
 #[tactic(auto, unfolding(text_words::specs::Values::value_at))]
 fn put_typed(
     alloc: Global,
-    config: &Config,
+    rows: &[AttrRow],
     attr: AttrId,
     word: &[u8],
     settings: &mut Vec<Setting>,
 ) -> Result<bool, AllocError>
-    ensures { IfOk result (λ there. IsPut there attr.0 (typed_at config.now word.now attr.0) settings.old.items settings.new.items) }
+    ensures { IfOk result (λ there. IsPut there attr.0 (typed_in (types_of rows.now) word.now attr.0) settings.old.items settings.new.items) }
 {
-    let Some(line) = config.attrs.get(attr.0 as usize) else {
+    let Some(row) = row_at(rows, attr) else {
         return Ok(false);
     };
-    match &line.kind {
+    match &row.kind {
         TypeOf::Bool => put(settings, attr, truth(word).map(Value::Bool)),
         TypeOf::Int(bits) => put(settings, attr, int(word, *bits).map(Value::Int)),
         kind => {
@@ -72,7 +73,7 @@ pub fn settings_of(
     ensures found { IfOk result (AreFound model.now (pairs_seen pairs.now)) }
     ensures fits { IfOk result (IsFitting model.now) }
 {
-    let config = model.config();
+    let rows = model.attr_rows();
     let mut settings = spare;
     settings.clear();
     let mut spelled = true;
@@ -81,7 +82,7 @@ pub fn settings_of(
         let Some(attr) = model.attr(pair.name) else {
             return Ok(Found::Unnamed);
         };
-        spelled = put_typed(alloc, config, attr, pair.value, &mut settings)? && spelled;
+        spelled = put_typed(alloc, rows, attr, pair.value, &mut settings)? && spelled;
     }
     if spelled {
         Ok(Found::Settings(settings))

@@ -20,7 +20,8 @@ use Rattle.bay_model.specs.declared.report.Reasons.{Reasons}
 use Rattle.report_cut.specs.declared.segment.Segment.{Segment}
 use Rattle.report_cut.specs.Fields.{optional, truth, flags, time_octets, identity, first_fields, further_fields, place, included, inclusion, references, values, reasons, reasons_content, front, body, results, rpt, pdu, is_there}
 use Rattle.report_cut.specs.Cutting.{segments, cut_from, concat}
-use Rattle.report_cut.specs.Pdus.{Ascend, IsShort, HasData, CanBeCut, fits, spelled, pdus}
+use Rattle.output_shapes.specs.Shapes.{Ascend, IsShort, HasData, CanBeCut}
+use Rattle.report_cut.specs.Pdus.{fits, spelled, pdus}
 use Rattle.report_cut.specs.Part.{Takes, IsBelow, IsMoment, IsEntryId, IsReasons, no_reasons, IsIdentity, IsFirst, IsFurther, AreMarked, AreTold, IsBody, IsResults, IsListName, IsReportPart}
 use Rattle.report_cut.specs.Told.{told_member, sub_of, more_of, told, parts_from, parts, AreParts, AreVisible, CanBeRead}
 use Rattle.report_cut.proofs.SizeLaws.{length_of_flags, length_of_included}

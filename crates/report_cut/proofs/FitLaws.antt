@@ -14,7 +14,8 @@ use Rattle.report_cut.specs.declared.segment.Segment.{Segment}
 use Rattle.report_cut.specs.Fields.{identity, first_fields, further_fields, place, pdu}
 use Rattle.report_cut.specs.Sizes.{size_if, cost, inclusion_size, fixed_size, results_size, framed}
 use Rattle.report_cut.specs.Cutting.{cut_from, AllFit}
-use Rattle.report_cut.specs.Pdus.{fits, spelled, pdus, IsShort, CanBeCut, AreSegments, IsCut}
+use Rattle.output_shapes.specs.Shapes.{IsShort, CanBeCut}
+use Rattle.report_cut.specs.Pdus.{fits, spelled, pdus, AreSegments, IsCut}
 use Rattle.report_cut.proofs.SizeLaws.{length_of_pdu, length_of_front, length_of_place, length_of_identity, length_of_first_fields, length_of_further_fields}
 use Rattle.report_cut.proofs.CutLaws.{FitsAlone, fit_from, whole_from, full_from}
 use Rattle.report_cut.proofs.StepLaws.{as_long}

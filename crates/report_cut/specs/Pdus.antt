@@ -1,11 +1,8 @@
 -- The PDUs of a report (IEC 61850-8-1, segmentation of reports).
 use Rattle.std.specs.Prelude.{◌≡◌, ℕ, suc, ◌≤◌, ◌<◌, ◌⊎◌, Bool, true, false, nat_le, List, [], ◌∷◌, length, Some, None, if◌then◌else◌}
-use Rattle.std.specs.List.{AllByRecursion}
 use Rattle.bay_model.specs.declared.report.Report.{Report}
 use Rattle.bay_model.specs.declared.report.Member.{Member}
 use Rattle.report_cut.specs.Fields.{pdu}
-use Rattle.sv_base.specs.Tree.{Seen}
-use Rattle.mms_data.specs.Grammar.{IsSpelled}
 use Rattle.report_cut.specs.Cutting.{cut_from, concat, AllFit, AreFull}
 
 -- whether a segment of this number can have these members; MoreSegmentsFollow is as long either way
@@ -33,26 +30,3 @@ pub record AreSegments (r : Report) (size : ℕ) (ss : List (List Member)) : Typ
 abbrev pub IsCut : Report → ℕ → List (List ℕ) → Type 0
 IsCut r size ps = ((length (pdu r None r.members) ≤ size) × (ps ≡ pdu r None r.members ∷ []))
     ⊎ ((size < length (pdu r None r.members)) × (ss : List (List Member)) × AreSegments r size ss × (ps ≡ spelled r 0 ss))
-
--- the numbers ascend, above one and up to another
-abbrev pub Ascend : ℕ → ℕ → List Member → Type 0
-Ascend last total [] = Unit {0}
-Ascend last total (m ∷ ms) = (last < m.number.0) × (m.number.0 ≤ total) × Ascend m.number.0 total ms
-
-abbrev pub IsShort : Member → Type 0
-IsShort m = (length m.reference ≤ 129) × (length m.octets ≤ 500)
-
--- the octets are one whole Data (ISO 9506-2, Data)
-abbrev pub HasData : Member → Type 0
-HasData m = (s : Seen) × IsSpelled m.octets s
-
--- a report that can be cut
-pub record CanBeCut (r : Report) : Type 0 where
-  pub options : length r.opt_flds ≡ 10
-  pub least : 1 ≤ r.total
-  pub most : r.total ≤ 256
-  pub numbered : Ascend 0 r.total r.members
-  pub rpt_id : length r.rpt_id ≤ 129
-  pub dat_set : length r.dat_set ≤ 129
-  pub members : AllByRecursion IsShort r.members
-  pub values : AllByRecursion HasData r.members

@@ -4,7 +4,8 @@ ghost use Rattle.std.specs.Prelude.{◌≡◌, ◌+◌, ◌*◌, ◌++◌, ◌�
 ghost use Rattle.std.specs.List.{All, AllByRecursion, sum_by};
 ghost use Rattle.report_cut.specs.Sizes.{cost, fits_size};
 ghost use Rattle.report_cut.specs.Cutting.{taken, cut_from};
-ghost use Rattle.report_cut.specs.Pdus.{pdus as pdus_of, fits, spelled, IsShort, CanBeCut, IsCut};
+ghost use Rattle.output_shapes.specs.Shapes.{IsShort, CanBeCut};
+ghost use Rattle.report_cut.specs.Pdus.{pdus as pdus_of, fits, spelled, IsCut};
 
 use crate::measure::{cost_of, fixed_len, framed};
 use crate::pdu::written;

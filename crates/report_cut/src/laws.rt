@@ -14,7 +14,8 @@ ghost use Rattle.report_cut.specs.Part.{IsReportPart};
 ghost use Rattle.report_cut.specs.Told.{parts, AreParts, CanBeRead};
 ghost use Rattle.report_cut.specs.declared.part.ReportPart.{ReportPart};
 ghost use Rattle.ber_grammar.specs.Octets.{IsBytes};
-ghost use Rattle.report_cut.specs.Pdus.{fits, pdus, IsShort, CanBeCut, AreSegments, IsCut};
+ghost use Rattle.output_shapes.specs.Shapes.{IsShort, CanBeCut};
+ghost use Rattle.report_cut.specs.Pdus.{fits, pdus, AreSegments, IsCut};
 
 /// Each PDU of a report fits the size. Where the report goes in segments, each has members that fit, all together have each
 /// member once and in order, and none but the last could take one more.

@@ -1,6 +1,7 @@
 -- Passes that are dealt to actors.
 use Rattle.std.specs.Prelude.{◌≡◌, ◌+◌, ◌*◌, ◌<◌, ◌≤◌, ◌^◌, ℕ, List, [], ◌∷◌, length, Vec, vec_capacity}
 use Rattle.std.specs.declared.alloc.Global.{Global}
+use Rattle.bay_histories.specs.Rules.{Rules}
 use Rattle.history_lock.specs.Passes.{Site, Known}
 use Rattle.actor_scripts.specs.declared.script.Script.{Script}
 use Rattle.actor_scripts.specs.declared.part.Reply.{Reply}
@@ -27,7 +28,7 @@ Dealt h low high [] = low ≡ high
 Dealt h low high (x ∷ xs) = IsFresh h x × (x.0.first + x.0.count ≡ high) × Dealt h low x.0.first xs
 
 -- what came of each
-abbrev pub AllWent : {M : Type 0} → List (Known × Script) → List (Played M) → Type 0
-AllWent [] [] = Unit {0}
-AllWent (x ∷ xs) (d ∷ ds) = Went x.0 x.1 d × AllWent xs ds
-AllWent _ _ = ⊥
+abbrev pub AllWent : {M : Type 0} → Rules → List (Known × Script) → List (Played M) → Type 0
+AllWent rules [] [] = Unit {0}
+AllWent rules (x ∷ xs) (d ∷ ds) = Went rules x.0 x.1 d × AllWent rules xs ds
+AllWent rules _ _ = ⊥

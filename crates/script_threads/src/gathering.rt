@@ -18,7 +18,8 @@ fn joined<M: StateMachine>(history: &History<M>, pass: &mut Pass<M>, played: Pla
     requires played { IsOf history.now played.pass }
     ensures part { result ≡ played.part }
     ensures pass { IsOf history.now pass.new × Gathers pass.old pass.new × Gathers played.pass pass.new }
-    ensures legal { IsLegal history.now.config pass.old.seen → IsLegal history.now.config played.pass.seen → IsLegal history.now.config pass.new.seen }
+    ensures legal { IsLegal M.rules history.now.config pass.old.seen → IsLegal M.rules history.now.config played.pass.seen
+        → IsLegal M.rules history.now.config pass.new.seen }
 {
     let Played { pass: other, part } = played;
     history.join(pass, other);
@@ -32,10 +33,11 @@ pub fn gather<M: StateMachine>(
     pass: &mut Pass<M>,
     all: Vec<Played<M>>,
 ) -> Result<Vec<Part>, AllocError>
-    requires pass { IsOf history.now pass.old × IsLegal history.now.config pass.old.seen }
-    requires played { All (λ d. IsOf history.now d.pass × IsLegal history.now.config d.pass.seen) all.items }
+    requires pass { IsOf history.now pass.old × IsLegal M.rules history.now.config pass.old.seen }
+    requires played { All (λ d. IsOf history.now d.pass × IsLegal M.rules history.now.config d.pass.seen) all.items }
     ensures parts { IfOk result (λ v. v.items ≡ map (λ d. d.part) all.items) }
-    ensures pass { IfOk result (λ _. IsOf history.now pass.new × Gathers pass.old pass.new × IsLegal history.now.config pass.new.seen) }
+    ensures pass { IfOk result (λ _. IsOf history.now pass.new × Gathers pass.old pass.new
+        × IsLegal M.rules history.now.config pass.new.seen) }
     ensures joined { IfOk result (λ _. AllGathered pass.new all.items) }
 {
     let mut parts = Vec::new(alloc);

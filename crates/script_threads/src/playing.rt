@@ -39,8 +39,8 @@ pub fn play<R: Wait, M: StateMachine, G: Gate>(
     requires turns { length steps.now ≤ pass.old.left }
     requires steps { AreFit history.now.config steps.now }
     requires room { (replies.old.items ≡ []) × (length steps.now ≤ vec_capacity replies.old) }
-    ensures plays { Plays pass.old steps.now replies.new.items pass.new }
-    ensures stops { StopsAt pass.old.config pass.old.first steps.now (length replies.new.items) result pass.new.seen }
+    ensures plays { Plays M.rules pass.old steps.now replies.new.items pass.new }
+    ensures stops { StopsAt M.rules pass.old.config pass.old.first steps.now (length replies.new.items) result pass.new.seen }
 {
     for timed in steps {
         gate.pass(replies.len() as u64);
@@ -59,7 +59,7 @@ pub fn play_job<R: Wait, M: StateMachine, G: Gate>(
     job: Job<M, G>,
 ) -> Played<M>
     requires { IsReady history.now job.pass job.script job.replies }
-    ensures { Went job.pass job.script result }
+    ensures { Went M.rules job.pass job.script result }
 {
     let Job {
         mut pass,

@@ -45,7 +45,7 @@ fn play_all<R: Threads + Wait + Sync, M: StateMachine, G: Gate>(
     requires { All (λ j. IsReady history.now j.pass j.script j.replies) jobs.items }
     ensures len { IfOk result (λ v. length v.items ≡ length jobs.items) }
     ensures each { IfOk result (λ v. (i : ℕ) (x : Known × TheScript) (d : TheGiven M) → i < length jobs.items
-        → Went (slice_index_or (map (λ j. (j.pass, j.script)) jobs.items) i x).0 (slice_index_or (map (λ j. (j.pass, j.script)) jobs.items) i x).1
+        → Went M.rules (slice_index_or (map (λ j. (j.pass, j.script)) jobs.items) i x).0 (slice_index_or (map (λ j. (j.pass, j.script)) jobs.items) i x).1
         (slice_index_or v.items i d)) }
 {
     map_vec(
@@ -53,7 +53,7 @@ fn play_all<R: Threads + Wait + Sync, M: StateMachine, G: Gate>(
         jobs,
         &|job: Job<M, G>| -> Played<M>
             requires { IsReady history.now job.pass job.script job.replies }
-            ensures { Went job.pass job.script result }
+            ensures { Went M.rules job.pass job.script result }
         { play_job(rt, history, job) },
     )
 }
@@ -71,7 +71,8 @@ fn play_scripts<R: Threads + Wait + Sync, M: StateMachine, G: Gate>(
     requires numbers { AreFalling 33 (map (λ a. a.script.actor) actors.items) }
     requires steps { All (λ a. CanPlay history.now.config a.script) actors.items }
     ensures numbers { IfOk result (λ _. (pass.new.table ≡ history.now.table) × ((k : ℕ) → k < 33 → HasNumber pass.new k)) }
-    ensures raced { IfOk result (λ v. HasNoOthers pass.new.seen → IsRaced history.now.config (map (λ a. a.script) actors.items) v.items pass.new.seen) }
+    ensures raced { IfOk result (λ v. HasNoOthers pass.new.seen
+        → IsRaced M.rules history.now.config (map (λ a. a.script) actors.items) v.items pass.new.seen) }
 {
     let jobs = deal(alloc, history, pass, actors)?;
     let all = play_all(rt, history, jobs)?;
@@ -90,7 +91,8 @@ fn run<R: Threads + Wait + Sync, M: StateMachine, G: Gate>(
     requires pass { pass ≡ first_of history }
     requires numbers { AreFalling 33 (map (λ a. a.script.actor) actors.items) }
     requires steps { All (λ a. CanPlay history.config a.script) actors.items }
-    ensures { IfOk result (λ r. (h : TheHistory) × (r.total ≡ length h) × IsRaced history.config (map (λ a. a.script) actors.items) r.parts.items h) }
+    ensures { IfOk result (λ r. (h : TheHistory) × (r.total ≡ length h)
+        × IsRaced M.rules history.config (map (λ a. a.script) actors.items) r.parts.items h) }
 {
     let mut pass = pass;
     let parts = match play_scripts(rt, alloc, &history, &mut pass, actors) {
@@ -118,7 +120,8 @@ pub fn race<R: Threads + Wait + Sync, M: StateMachine, G: Gate>(
     requires machine { M.stands machine (M.config machine) [] }
     requires numbers { AreFalling 33 (map (λ a. a.script.actor) actors.items) }
     requires steps { All (λ a. CanPlay (M.config machine) a.script) actors.items }
-    ensures { IfOk result (λ r. (h : TheHistory) × (r.total ≡ length h) × IsRaced (M.config machine) (map (λ a. a.script) actors.items) r.parts.items h) }
+    ensures { IfOk result (λ r. (h : TheHistory) × (r.total ≡ length h)
+        × IsRaced M.rules (M.config machine) (map (λ a. a.script) actors.items) r.parts.items h) }
 {
     let (history, pass) = History::new(alloc, machine, ACTORS)?;
     run(rt, alloc, history, pass, actors)

@@ -175,7 +175,7 @@ fn is_typed(kind: &TypeOf, value: &Value) -> bool
 }
 
 /// The row of an attribute; none exactly where it is not there.
-fn row_at(rows: &[AttrRow], attr: AttrId) -> Option<&AttrRow>
+pub fn row_at(rows: &[AttrRow], attr: AttrId) -> Option<&AttrRow>
     ensures { option_map (λ r. r.now) result ≡ slice_get rows.now attr.0 }
 {
     rows.get(attr.0 as usize)

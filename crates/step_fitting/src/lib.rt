@@ -3,4 +3,4 @@
 
 mod fitting;
 
-pub use fitting::{Counts, step_fits};
+pub use fitting::{Counts, row_at, step_fits};

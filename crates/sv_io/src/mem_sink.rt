@@ -1,5 +1,5 @@
 //! A sink in memory, whose listed writes fail.
-ghost use Rattle.std.specs.Prelude.{◌≡◌, ◌⊎◌, Some, [], Contains, OnErr, OnOk, IsErr};
+ghost use Rattle.std.specs.Prelude.{◌≡◌, ◌≤◌, ◌⊎◌, Some, [], Contains, OnErr, OnOk, IsErr};
 ghost use Rattle.std.specs.Io.KnownBytes.{Appends};
 ghost use Rattle.sv_io.specs.Causes.{counted, Rose, HasCause, GrowsByFront};
 
@@ -67,6 +67,16 @@ impl MemSink {
         ensures { result ≡ self.now.wants }
     {
         self.wants
+    }
+
+    /// A write fails.
+    pub(crate) fn fail(&mut self)
+        ensures counts { self.new ≡ record self.old { calls = counted self.old.calls; faults = counted self.old.faults } }
+        ensures later { self.old.faults ≤ self.new.faults }
+        ensures rose { Rose self.old.faults self.new.faults }
+    {
+        self.calls = self.calls.saturating_add(1);
+        self.faults = self.faults.saturating_add(1);
     }
 }
 

@@ -1,8 +1,8 @@
 //! A source in memory, whose listed reads fail.
-ghost use Rattle.std.specs.Prelude.{◌≡◌, ◌↔◌, Some, min, length, Contains, IfOk, OnErr, OnOk, IsErr};
+ghost use Rattle.std.specs.Prelude.{◌≡◌, ◌≤◌, ◌↔◌, Some, min, length, Contains, IfOk, OnErr, OnOk, IsErr};
 ghost use Rattle.std.specs.Io.{ReadsAtMost};
 ghost use Rattle.std.specs.Io.KnownBytes.{ReadConsumes};
-ghost use Rattle.sv_io.specs.Causes.{counted, HasCause};
+ghost use Rattle.sv_io.specs.Causes.{counted, Rose, HasCause};
 
 use crate::calls::Calls;
 use crate::traits::{Failed, Source};
@@ -57,6 +57,24 @@ impl MemSource {
         ensures { result ≡ self.now.faults }
     {
         self.faults
+    }
+
+    /// Other octets are left, in place of those that are.
+    pub(crate) fn refill(&mut self, bytes: Octs)
+        ensures { self.new ≡ record self.old { left = bytes } }
+    {
+        self.octets = bytes;
+        self.at = 0;
+    }
+
+    /// A read fails.
+    pub(crate) fn fail(&mut self)
+        ensures counts { self.new ≡ record self.old { calls = counted self.old.calls; faults = counted self.old.faults } }
+        ensures later { self.old.faults ≤ self.new.faults }
+        ensures rose { Rose self.old.faults self.new.faults }
+    {
+        self.calls = self.calls.saturating_add(1);
+        self.faults = self.faults.saturating_add(1);
     }
 }
 

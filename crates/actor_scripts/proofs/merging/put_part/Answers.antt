@@ -3,6 +3,7 @@ use Rattle.std.proofs.Common.{◌≡◌, ℕ, ◌∷◌, [], ◌++◌, List, len
 use Rattle.std.specs.Prelude.{slice_get}
 use Rattle.sv_base.specs.declared.config.Config.{Config}
 use Rattle.bay_model.specs.Answers.{History}
+use Rattle.bay_histories.specs.Rules.{Rules}
 use Rattle.actor_scripts.specs.declared.part.Reply.{Reply}
 use Rattle.actor_scripts.specs.declared.made.Made.{Made}
 use Rattle.actor_scripts.specs.Scripts.{made_of, made}
@@ -25,6 +26,6 @@ loop-reply-preserved c =
       ap (λ (xs : List _). length xs) c.put.ensures ∙ (length-set c.loop-reply.places reply.place (Some step) ∙ i.0),
       omega (arith, i.1, length-append c.loop-reply.yielded (reply ∷ [])),
       more,
-      λ (config : Config) (h : History) e right. subst (AreRight (made_of config h)) (sym c.put.ensures)
-          (right_set (made_of config h) c.loop-reply.places reply.place step (stands_there config actor h c.loop-reply.index reply (subst (λ (rs : List Reply). slice_get rs c.loop-reply.index ≡ Some reply) e read)) (i.3 config h e right)),
+      λ (rules : Rules) (config : Config) (h : History) e right. subst (AreRight (made_of rules config h)) (sym c.put.ensures)
+          (right_set (made_of rules config h) c.loop-reply.places reply.place step (stands_there rules config actor h c.loop-reply.index reply (subst (λ (rs : List Reply). slice_get rs c.loop-reply.index ≡ Some reply) e read)) (i.3 rules config h e right)),
     )

@@ -1,7 +1,7 @@
 -- what the loops of `sendable::are_short_errors` keep
 use Rattle.std.proofs.Common.{drop}
 use Rattle.std.specs.List.{All}
-use Rattle.bay_answers.specs.ControlPdus.{IsShortError}
+use Rattle.output_shapes.specs.Shapes.{IsShortError}
 use Rattle.answer_text.proofs.sendable.are_short_errors.Given as goal
 
 abbrev pub invariant-loop-error : goal.invariant-loop-error

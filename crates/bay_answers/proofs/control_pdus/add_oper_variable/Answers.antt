@@ -1,5 +1,5 @@
 -- why `control_pdus::add_oper_variable` answers as its contract says
-use Rattle.std.proofs.Common.{◌≡◌, ap₂, subst, [], ◌++◌, ◌∙◌}
+use Rattle.std.proofs.Common.{◌≡◌, ap₂, subst, ◌++◌, ◌∙◌}
 use Rattle.std.specs.Prelude.{OnOk}
 use Rattle.mms_pdu.specs.AskingOctets.{domain_name}
 use Rattle.bay_answers.specs.RepliesVariables.{variable_octets}

@@ -11,5 +11,5 @@ pub returns-then-spelled-clause-fits : goal.returns-then-spelled-clause-fits
 returns-then-spelled-clause-fits c =
     let model = c.args.model.now in
     let settings = c.loop-pair.settings.items in
-    settings-fit model c.config-config.ensures.types (pairs_seen c.args.pairs.now) settings
+    settings-fit model c.attr_rows-rows.ensures.settable (pairs_seen c.args.pairs.now) settings
     (c.loop-pair.invariant.1 ∙ (ap (λ b. settings_from model (kept_if b settings) (pairs_seen c.loop-pair.rest)) c.if-spelled.true ∙ ap (settings_from model (Some settings)) c.in_default.ensures.pair))

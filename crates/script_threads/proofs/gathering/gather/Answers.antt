@@ -22,7 +22,7 @@ loop-played-preserved g c =
     let rest : List (Played g.row.M.Denot) = c.next.new.self.rest.items in
     let e = c.joined.ensures.pass in
     let whole : ds ++ d ∷ rest ≡ c.args.all.items = ap (λ (xs : List (Played g.row.M.Denot)). ds ++ xs) (sym c.in-Some.ensures.steps.0) ∙ i.5 in
-    let mine = all_here (λ (d : Played g.row.M.Denot). IsOf c.args.history.now d.pass × IsLegal c.args.history.now.config d.pass.seen) ds rest d (subst (All (λ (d : Played g.row.M.Denot). IsOf c.args.history.now d.pass × IsLegal c.args.history.now.config d.pass.seen)) (sym whole) c.requires.played) in (
+    let mine = all_here (λ (d : Played g.row.M.Denot). IsOf c.args.history.now d.pass × IsLegal g.M.StateMachine.rules c.args.history.now.config d.pass.seen) ds rest d (subst (All (λ (d : Played g.row.M.Denot). IsOf c.args.history.now d.pass × IsLegal g.M.StateMachine.rules c.args.history.now.config d.pass.seen)) (sym whole) c.requires.played) in (
       e.0,
       gathers_more c.args.pass.now c.loop-played.pass c.joined.new.pass i.1 e.1,
       c.joined.ensures.legal i.2 mine.1,

@@ -8,7 +8,7 @@ use Rattle.script_threads.proofs.gathering.gather.Given as goal
 
 abbrev pub invariant-loop-played : goal.invariant-loop-played
 invariant-loop-played g l =
-    IsOf l.history l.pass × Gathers l.initial.pass l.pass × IsLegal l.history.config l.pass.seen
+    IsOf l.history l.pass × Gathers l.initial.pass l.pass × IsLegal g.M.StateMachine.rules l.history.config l.pass.seen
     × AllGathered l.pass l.yielded
     × (map (λ (d : Played g.row.M.Denot). d.part) l.yielded ≡ l.parts.items)
     × (l.yielded ++ l.played-iterator.rest.items ≡ l.fn.all.items)

@@ -13,9 +13,9 @@ use Rattle.bay_core.proofs.ChangedLaws.{deletions-done, scope-refused}
 use Rattle.bay_core.proofs.DeletionLaws.{kept-deleted}
 use Rattle.bay_core.proofs.bay.Bay.answer_deletion.Goals as goal
 
-pub returns-then-scope-ne0-clause-answered : goal.returns-then-scope-ne0-clause-answered
-returns-then-scope-ne0-clause-answered c =
-    let other : (c.args.scope == 0) ≡ false = grind (arith, nat_tests, c.if-scope-ne0.true) in
+pub returns-then-scope-ne-SPECIFIC-clause-answered : goal.returns-then-scope-ne-SPECIFIC-clause-answered
+returns-then-scope-ne-SPECIFIC-clause-answered c =
+    let other : (c.args.scope == 0) ≡ false = grind (arith, nat_tests, c.if-scope-ne-SPECIFIC.true) in
     scope-refused c.args.self.now c.arrive.new.self c.args.moment c.args.a.0 c.args.scope c.args.names.now c.requires.number other c.arrive.ensures.stands
 
 pub returns-clause-answered : goal.returns-clause-answered
@@ -25,7 +25,7 @@ returns-clause-answered c =
     let z = c.arrive-2.new.self in
     let names = c.args.names.now in
     let f = c.self.invariant.furnished in
-    let all : (c.args.scope == 0) ≡ true = grind (arith, nat_tests, c.if-scope-ne0.false) in
+    let all : (c.args.scope == 0) ≡ true = grind (arith, nat_tests, c.if-scope-ne-SPECIFIC.false) in
     let new : c.delete_all-matched.new.self ≡ after_deletions names z = c.delete_all-matched.ensures.state ∙ ap (λ (l : List SetName). after_deletions l z) c.as_slice.ensures in
     let matched : c.delete_all-matched.result.0 ≡ matched_in names z = c.delete_all-matched.ensures.matched ∙ ap (λ (l : List SetName). matched_in l z) c.as_slice.ensures in
     let gone : c.delete_all-matched.result.1 ≡ deleted_in names z = c.delete_all-matched.ensures.deleted ∙ ap (λ (l : List SetName). deleted_in l z) c.as_slice.ensures in

@@ -10,9 +10,9 @@ join_seat-requires g c = (
   c.requires.table.1,
   c.requires.other.1,
   search rules,
-  joins_kept _ _ _ _ _ _ _ c.requires.idle.0 c.requires.other.0
+  joins_kept _ _ _ _ _ _ _ _ c.requires.idle.0 c.requires.other.0
       c.requires.idle.2,
 )
 
 pub load-requires : goal.load-requires
-load-requires g c = (search rules, search rules, compares_kept _ _ _ _ _ _ (ap (λ (m : Seated _). m.0.phase) c.join_seat.ensures.2 ∙ c.requires.idle.0))
+load-requires g c = (search rules, search rules, compares_kept _ _ _ _ _ _ _ (ap (λ (m : Seated _). m.0.phase) c.join_seat.ensures.2 ∙ c.requires.idle.0))

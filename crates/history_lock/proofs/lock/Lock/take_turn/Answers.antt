@@ -73,7 +73,7 @@ append-place-requires-clause-legal g c κs within =
       config_or c.args.seat.now.me.0.config,
       ap (λ (n : Seated _). n.0.config) held
           ∙ c.requires.config,
-      subst (λ (h : History). IsLegal (config_or c.args.seat.now.me.0.config) (t ∷ h)) (sym (ap (λ (n : Seated _). n.0.seen) held)) (c.step-result.ensures.legal _ _ after.1),
+      subst (λ (h : History). IsLegal g.M.StateMachine.rules (config_or c.args.seat.now.me.0.config) (t ∷ h)) (sym (ap (λ (n : Seated _). n.0.seen) held)) (c.step-result.ensures.legal _ _ after.1),
     )
 
 pub returns-in-Ok-clause-turn : goal.returns-in-Ok-clause-turn

@@ -7,7 +7,7 @@ use Rattle.history_lock.proofs.lock.Lock.wait_turn.Goals as goal
 
 pub load-serving-requires : goal.load-serving-requires
 load-serving-requires g c = let i = c.loop.invariant in
-    (i.0 ∙ c.requires.table, search rules, looks_kept _ _ _ _ _ _ c.args.ticket (ap (λ m. m.0.phase) i.1 ∙ c.requires.drawn))
+    (i.0 ∙ c.requires.table, search rules, looks_kept _ _ _ _ _ _ _ c.args.ticket (ap (λ m. m.0.phase) i.1 ∙ c.requires.drawn))
 
 pub returns-then-serving-ticket-clause-got : goal.returns-then-serving-ticket-clause-got
 returns-then-serving-ticket-clause-got g c =

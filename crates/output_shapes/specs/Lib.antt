@@ -1,0 +1,2 @@
+-- which outputs of a bay can be sent
+pub mod Shapes

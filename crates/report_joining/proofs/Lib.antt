@@ -1,0 +1,1 @@
+-- the laws of this crate
