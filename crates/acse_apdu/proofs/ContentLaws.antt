@@ -71,7 +71,7 @@ context_again s (is_tag, n, is, lt) = rw (eq-eqb s.element.tag INTEGER is_tag, u
 value_again : (context value : Spot) (pdu : Piece) → IsContext context → IsEncoding value pdu → value_of context (value ∷ []) ≡ Some pdu
 value_again context value pdu is (is_tag, at) = rw (context_again context is) (with_tag-again SINGLE_ASN1_TYPE value pdu is_tag at)
 
--- an encoding behind a context
+-- an encoding after a context
 abbrev IsPair : Spot → List Spot → Piece → Type 0
 IsPair context rest pdu = (value : Spot) × (rest ≡ value ∷ []) × IsContext context × IsEncoding value pdu
 

@@ -5,10 +5,13 @@ ghost use Rattle.std.specs.Option.{option_map};
 ghost use Rattle.ber_grammar.specs.Place.{piece};
 ghost use Rattle.ber_grammar.specs.Reader.{Gives, Reads};
 ghost use Rattle.ber_view.specs.View.{spot};
-ghost use Rattle.acse_apdu.specs.Grammar.{IsAarq, IsAarqRefused, IsAare, IsAareRefused, IsRelease, IsReleaseRefused};
+ghost use Rattle.acse_apdu.specs.Grammar.{IsAarq, IsAarqRefused, IsAare, IsAareRefused, IsRelease};
+ghost use Rattle.acse_apdu.specs.Grammar.{IsReleaseRefused};
 ghost use Rattle.acse_apdu.specs.Apdu.{apdu_at};
-ghost use Rattle.acse_apdu.specs.Contents.{names_mms, result_at, is_zero, is_accepted, is_context, value_of, external_of, pdu_at};
-ghost use Rattle.acse_apdu.specs.Reading.{association_at, aarq_at, aare_at, release_at, pdu_of_aarq, pdu_of_aare, rlrq_of, rlre_of};
+ghost use Rattle.acse_apdu.specs.Contents.{names_mms, result_at, is_zero, is_accepted, is_context};
+ghost use Rattle.acse_apdu.specs.Contents.{value_of, external_of, pdu_at};
+ghost use Rattle.acse_apdu.specs.Reading.{association_at, aarq_at, aare_at, release_at};
+ghost use Rattle.acse_apdu.specs.Reading.{pdu_of_aarq, pdu_of_aare, rlrq_of, rlre_of};
 
 use crate::codes::{
     AARE, AARQ, APPLICATION_CONTEXT_NAME, EXTERNAL, INTEGER, OBJECT_IDENTIFIER, RESULT, RLRE, RLRQ,
@@ -148,7 +151,8 @@ fn release(bytes: &[u8], tag: u32) -> Result<(), AcFault>
 /// isn't one EXTERNAL.
 pub fn read_aarq(bytes: &[u8]) -> Result<&[u8], AcFault>
     // The octets and where they lie, where the input spells that, else the refusal that the input earns.
-    ensures reads { Reads piece result (IsAarq (piece bytes.entry)) (IsAarqRefused (piece bytes.entry)) }
+    ensures reads { Reads piece result (IsAarq (piece bytes.entry))
+        (IsAarqRefused (piece bytes.entry)) }
     ensures exact { Gives (λ x. x.now) result (pdu_of_aarq bytes.now) }
 {
     aarq(bytes)
@@ -163,7 +167,8 @@ pub fn read_aarq(bytes: &[u8]) -> Result<&[u8], AcFault>
 /// result isn't 0, accepted; `ContextName` where it doesn't name the application context of MMS; `NoUserInformation`
 /// where its user information isn't one EXTERNAL.
 pub fn read_aare(bytes: &[u8]) -> Result<&[u8], AcFault>
-    ensures reads { Reads piece result (IsAare (piece bytes.entry)) (IsAareRefused (piece bytes.entry)) }
+    ensures reads { Reads piece result (IsAare (piece bytes.entry))
+        (IsAareRefused (piece bytes.entry)) }
     ensures exact { Gives (λ x. x.now) result (pdu_of_aare bytes.now) }
 {
     aare(bytes)
@@ -173,7 +178,8 @@ pub fn read_aare(bytes: &[u8]) -> Result<&[u8], AcFault>
 ///
 /// Fails with `Apdu` where `bytes` are not one whole RLRQ that is cut into whole fields.
 pub fn read_rlrq(bytes: &[u8]) -> Result<(), AcFault>
-    ensures reads { Reads (λ x. x) result (λ x. IsRelease RLRQ (piece bytes.entry)) (IsReleaseRefused RLRQ (piece bytes.entry)) }
+    ensures reads { Reads (λ x. x) result (λ x. IsRelease RLRQ (piece bytes.entry))
+        (IsReleaseRefused RLRQ (piece bytes.entry)) }
     ensures exact { Gives (λ x. x) result (rlrq_of bytes.now) }
 {
     release(bytes, RLRQ)
@@ -183,7 +189,8 @@ pub fn read_rlrq(bytes: &[u8]) -> Result<(), AcFault>
 ///
 /// Fails with `Apdu` where `bytes` are not one whole RLRE that is cut into whole fields.
 pub fn read_rlre(bytes: &[u8]) -> Result<(), AcFault>
-    ensures reads { Reads (λ x. x) result (λ x. IsRelease RLRE (piece bytes.entry)) (IsReleaseRefused RLRE (piece bytes.entry)) }
+    ensures reads { Reads (λ x. x) result (λ x. IsRelease RLRE (piece bytes.entry))
+        (IsReleaseRefused RLRE (piece bytes.entry)) }
     ensures exact { Gives (λ x. x) result (rlre_of bytes.now) }
 {
     release(bytes, RLRE)

@@ -3,7 +3,9 @@
 ghost use Rattle.std.specs.Prelude.{◌≡◌, ◌<◌, ◌^◌, ◌++◌, length, IfOk, OnOk};
 ghost use Rattle.ber_write.specs.Minimal.{octets_of};
 ghost use Rattle.acse_apdu.specs.declared.codes.TheConstants.{RLRQ, RLRE};
-ghost use Rattle.acse_apdu.specs.Written.{name_field, result_fields, external_content, information_content, aarq_content, aare_content, aarq_octets};
+ghost use Rattle.acse_apdu.specs.Written.{name_field, result_fields, external_content};
+ghost use Rattle.acse_apdu.specs.Written.{information_content, aarq_content, aare_content};
+ghost use Rattle.acse_apdu.specs.Written.{aarq_octets};
 ghost use Rattle.acse_apdu.specs.Written.{aare_octets, release_octets};
 
 use crate::codes::{

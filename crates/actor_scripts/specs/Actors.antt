@@ -1,4 +1,4 @@
--- The numbers of actors, and what each can play.
+-- The numbers of actors, and what each can run.
 use Rattle.std.specs.Prelude.{◌<◌, ◌≤◌, ◌^◌, ℕ, List, [], ◌∷◌, length}
 use Rattle.sv_base.specs.declared.config.Config.{Config}
 use Rattle.actor_scripts.specs.declared.script.Script.{Script}

@@ -1,4 +1,4 @@
--- Scripts that are played, and what comes of them in a history.
+-- Scripts that are run, and what comes of them in a history.
 pub mod Scripts
 pub mod Merging
 -- where a script stops, and what came of all of them

@@ -13,7 +13,7 @@ use crate::part::Part;
 use std::alloc::{AllocError, Global};
 use std::mem::replace;
 
-/// So many places with nothing in them.
+/// This many places with nothing in them.
 fn empty_places(alloc: Global, total: u64) -> Result<Vec<Option<Made>>, AllocError>
     ensures total { IfOk result (λ v. length v.items ≡ total) }
     ensures empty { IfOk result (λ v. (ms : List MadeStep) → AreRight ms v.items) }
@@ -41,7 +41,8 @@ fn put(places: &mut [Option<Made>], place: u64, made: Made)
 /// Puts the steps of a part into their places.
 fn put_part(places: &mut [Option<Made>], part: Part)
     ensures length { length places.new ≡ length places.old }
-    ensures right { (rules : Rules) (c : Config) (h : History) → part.replies.items ≡ replies_of rules c part.actor h
+    ensures right { (rules : Rules) (c : Config) (h : History)
+        → part.replies.items ≡ replies_of rules c part.actor h
         → AreRight (made_of rules c h) places.old → AreRight (made_of rules c h) places.new }
 {
     let Part {
@@ -79,10 +80,11 @@ fn filled(alloc: Global, places: Vec<Option<Made>>) -> Result<Vec<Made>, AllocEr
 }
 
 /// The steps of a history in its order, each with its actor, its index in the actor's script and its answer, from what came of
-/// the scripts. It takes time in the number of steps alone. Fails for want of memory alone, where the parts are those of one
+/// the scripts. It takes time in the number of steps alone. Fails only when out of memory, where the parts are those of one
 /// history.
 pub fn merge(alloc: Global, parts: Vec<Part>, total: u64) -> Result<Vec<Made>, AllocError>
-    ensures { IfOk result (λ v. (rules : Rules) (c : Config) (h : History) → total ≡ length h → AreOf rules c h parts.items
+    ensures { IfOk result (λ v. (rules : Rules) (c : Config) (h : History) → total ≡ length h
+        → AreOf rules c h parts.items
         → v.items ≡ made_of rules c h) }
 {
     let mut places = empty_places(alloc, total)?;

@@ -17,6 +17,6 @@ pub struct Part {
     pub actor: u32,
     /// The answers to the steps of the script up to where it stopped, in order.
     pub replies: Vec<Reply>,
-    /// Why the step behind those was refused; none where all went.
+    /// Why the step after those was refused; none where all went.
     pub fault: Option<StepFault>,
 }

@@ -1,4 +1,4 @@
--- Texts that were added to, and what the tests of an output tell.
+-- Texts that were added to, and what the tests of an output say.
 pub mod PrefixLaws
 pub mod SendableLaws
 pub mod FrameLaws

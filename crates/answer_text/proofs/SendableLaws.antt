@@ -1,4 +1,4 @@
--- What the tests of an output tell.
+-- What the tests of an output say.
 use Rattle.std.proofs.Common.{◌≡◌, ◌≤◌, ◌<◌, ◌-◌, ◌++◌, length-append, ℕ, zero, suc, Bool, true, false, true≢false, List, [], ◌∷◌, length, refl, sym, ap, subst, ◌∙◌, arith, max}
 use Rattle.std.specs.Prelude.{Some, IfSome, Result, Ok, Err, is_ok, IsTrue, nat_lt, slice_get, codes}
 use Rattle.std.specs.List.{All, list_all, AllByRecursion}
@@ -70,7 +70,7 @@ result-tells : (r : Result Value ℕ) → is_result_writable r ≡ true → IsWr
 result-tells (Ok v) h = seen-tells 10 (seen_of v) h
 result-tells (Err code) h = tt
 
--- a test of each tells a fact of each
+-- a test of each says a fact of each
 each : {A : Type 0} (test : A → Bool) (P : A → Type 0) → ((x : A) → test x ≡ true → P x) → (xs : List A) → list_all test xs ≡ true → AllByRecursion P xs
 each test P tells [] h = tt
 each test P tells (x ∷ xs) h = let b = both (test x) (list_all test xs) h in (tells x b.0, each test P tells xs b.1)

@@ -49,7 +49,7 @@ report_text c a r = report_head c a r ++ flat_map member_text r.members ++ codes
 abbrev pub pdu_line : ℕ → List ℕ → List ℕ
 pdu_line a octets = decimal a ++ codes " pdu " ++ encode_lower octets ++ codes "\n"
 
--- What association a took: a direct one tells reports, one of MMS each PDU, and one on the wire each in its frame. What else a direct
+-- What association a took: a direct one gets reports, one of MMS each PDU, and one on the wire each in its frame. What else a direct
 -- association may take has no line: a reply or a termination is none of its own.
 abbrev pub output_lines : Config → Shape → ℕ → Output → List ℕ
 output_lines c shapes.Direct a (outputs.Report r) = report_text c a r

@@ -13,7 +13,7 @@ use std::alloc::{AllocError, Global};
 use stream_lines::{push_hex, push_number};
 use sv_base::{CtlDef, CtlNo, Value};
 
-/// The Data of a value. One that has none, which is no ctlVal, fails as want of memory does.
+/// The Data of a value. One that has none, which is no ctlVal, fails as out of memory does.
 fn data(alloc: Global, value: &Value) -> Result<Vec<u8>, AllocError>
     ensures { IfOk result (λ v. v.items ≡ data_of value.now) }
 {
@@ -27,7 +27,8 @@ fn data(alloc: Global, value: &Value) -> Result<Vec<u8>, AllocError>
 
 /// Writes the reference `LD/LN$CO$DO` of a control's line.
 fn push_reference(out: &mut Vec<u8>, line: &CtlDef) -> Result<(), AllocError>
-    ensures ok { OnOk result (out.new.items ≡ out.old.items ++ (control_defined line.now).reference) }
+    ensures ok { OnOk result (out.new.items ≡ out.old.items
+        ++ (control_defined line.now).reference) }
     ensures err { OnErr result (take (length out.old.items) out.new.items ≡ out.old.items) }
 {
     out.extend_from_slice(line.domain.as_slice())?;
@@ -39,7 +40,8 @@ fn push_reference(out: &mut Vec<u8>, line: &CtlDef) -> Result<(), AllocError>
 
 /// Writes the reference of a control.
 fn push_control(out: &mut Vec<u8>, model: &Model, control: CtlNo) -> Result<(), AllocError>
-    ensures ok { OnOk result (out.new.items ≡ out.old.items ++ control_text (slice_get model.now.controls control.0)) }
+    ensures ok { OnOk result (out.new.items ≡ out.old.items ++ control_text
+        (slice_get model.now.controls control.0)) }
     ensures err { OnErr result (take (length out.old.items) out.new.items ≡ out.old.items) }
 {
     match model.config().controls.get(control.0 as usize) {

@@ -4,7 +4,8 @@ ghost use Rattle.std.specs.Prelude.{◌≡◌, ◌≤◌, ◌++◌, decimal, len
 ghost use Rattle.sv_base.specs.declared.config.Config.{Config};
 ghost use Rattle.bay_model.specs.declared.answer.Answer.TheVariants.{Wrote};
 ghost use Rattle.stream_lines.specs.Shapes.{IsShape};
-ghost use Rattle.answer_text.specs.Texts.{step_association, output_lines, answer_lines, lines_of as text_of};
+ghost use Rattle.answer_text.specs.Texts.{step_association, output_lines, answer_lines};
+ghost use Rattle.answer_text.specs.Texts.{lines_of as text_of};
 
 use crate::acts::push_acts;
 use crate::pdus::{push_output, push_sent};
@@ -17,7 +18,8 @@ use sv_base::AssocNo;
 
 /// Writes the outcome of a write.
 fn push_outcome(out: &mut Vec<u8>, a: AssocNo, outcome: Result<(), u8>) -> Result<(), AllocError>
-    ensures ok { (c : Config) (shape : Shape) → OnOk result (out.new.items ≡ out.old.items ++ answer_lines c shape a.0 (Wrote outcome)) }
+    ensures ok { (c : Config) (shape : Shape)
+        → OnOk result (out.new.items ≡ out.old.items ++ answer_lines c shape a.0 (Wrote outcome)) }
     ensures err { OnErr result (take (length out.old.items) out.new.items ≡ out.old.items) }
 {
     push_number(out, u64::from(a.0))?;
@@ -51,7 +53,8 @@ fn push_taken(
     output: &Output,
 ) -> Result<(), AllocError>
     requires { IsShape shape }
-    ensures ok { OnOk result (out.new.items ≡ out.old.items ++ output_lines model.now shape a.0 output.now) }
+    ensures ok { OnOk result (out.new.items ≡ out.old.items
+        ++ output_lines model.now shape a.0 output.now) }
     ensures err { OnErr result (take (length out.old.items) out.new.items ≡ out.old.items) }
 {
     match (shape, output) {
@@ -72,7 +75,8 @@ fn push_lines(
     answer: &Answer,
 ) -> Result<(), AllocError>
     requires { IsShape shape }
-    ensures ok { OnOk result (out.new.items ≡ out.old.items ++ answer_lines model.now shape a.0 answer.now) }
+    ensures ok { OnOk result (out.new.items ≡ out.old.items
+        ++ answer_lines model.now shape a.0 answer.now) }
     ensures err { OnErr result (take (length out.old.items) out.new.items ≡ out.old.items) }
 {
     match answer {
@@ -99,7 +103,7 @@ fn association(step: &Step) -> AssocNo
     }
 }
 
-/// Adds the lines of a step's answer, in the shape of its association. Fails for want of memory alone, and then `out` stays
+/// Adds the lines of a step's answer, in the shape of its association. Fails only when out of memory, and then `out` stays
 /// as it was.
 pub fn lines_of(
     alloc: Global,
@@ -110,7 +114,8 @@ pub fn lines_of(
     out: &mut Vec<u8>,
 ) -> Result<(), AllocError>
     requires { IsShape shape }
-    ensures ok { OnOk result (out.new.items ≡ out.old.items ++ text_of model.now shape step.now answer.now) }
+    ensures ok { OnOk result (out.new.items ≡ out.old.items
+        ++ text_of model.now shape step.now answer.now) }
     ensures err { OnErr result (out.new.items ≡ out.old.items) }
 {
     let before = out.len();

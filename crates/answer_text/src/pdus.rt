@@ -68,7 +68,8 @@ fn push_framed(
 ) -> Result<(), AllocError>
     requires line { IsLine line }
     requires short { AllByRecursion (λ o. length o ≤ 65000) pdus.now }
-    ensures ok { OnOk result (out.new.items ≡ out.old.items ++ flat_map (framed_line line a.0) pdus.now) }
+    ensures ok { OnOk result (out.new.items ≡ out.old.items ++ flat_map
+        (framed_line line a.0) pdus.now) }
     ensures err { OnErr result (take (length out.old.items) out.new.items ≡ out.old.items) }
 {
     match pdus {
@@ -80,7 +81,7 @@ fn push_framed(
     }
 }
 
-/// The PDUs of an output, of at most so many octets each. An output that can't be sent, which is none of a bay's, fails as want
+/// The PDUs of an output, of at most n octets each. An output that can't be sent, which is none of a bay's, fails as want
 /// of memory does.
 fn pdus_of(alloc: Global, model: &Model, size: u32, output: &Output) -> Result<Pdus, AllocError>
     requires least { 1024 ≤ size }
@@ -94,7 +95,7 @@ fn pdus_of(alloc: Global, model: &Model, size: u32, output: &Output) -> Result<P
     to_bytes(alloc, model, output, size)
 }
 
-/// Writes what an association took whose PDUs have at most so many octets.
+/// Writes what an association took whose PDUs have at most n octets.
 pub fn push_output(
     alloc: Global,
     out: &mut Vec<u8>,
@@ -105,7 +106,8 @@ pub fn push_output(
 ) -> Result<(), AllocError>
     requires least { 1024 ≤ size }
     requires most { size ≤ 65000 }
-    ensures ok { OnOk result (out.new.items ≡ out.old.items ++ flat_map (pdu_line a.0) (output_pdus model.now size output.now)) }
+    ensures ok { OnOk result (out.new.items ≡ out.old.items ++ flat_map (pdu_line a.0)
+        (output_pdus model.now size output.now)) }
     ensures err { OnErr result (take (length out.old.items) out.new.items ≡ out.old.items) }
 {
     let pdus = pdus_of(alloc, model, size, output)?;
@@ -122,7 +124,8 @@ pub fn push_sent(
     output: &Output,
 ) -> Result<(), AllocError>
     requires { IsLine line }
-    ensures ok { OnOk result (out.new.items ≡ out.old.items ++ flat_map (framed_line line a.0) (output_pdus model.now line.size output.now)) }
+    ensures ok { OnOk result (out.new.items ≡ out.old.items ++ flat_map (framed_line line a.0)
+        (output_pdus model.now line.size output.now)) }
     ensures err { OnErr result (take (length out.old.items) out.new.items ≡ out.old.items) }
 {
     let pdus = pdus_of(alloc, model, line.size, output)?;

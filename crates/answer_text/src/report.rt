@@ -1,8 +1,10 @@
 //! The line of a report.
 
-ghost use Rattle.std.specs.Prelude.{◌≡◌, ◌++◌, codes, length, take, OnOk, OnErr, slice_get, if◌then◌else◌};
+ghost use Rattle.std.specs.Prelude.{◌≡◌, ◌++◌, codes, length, take, OnOk, OnErr, slice_get};
+ghost use Rattle.std.specs.Prelude.{if◌then◌else◌};
 ghost use Rattle.std.specs.List.{flat_map};
-ghost use Rattle.answer_text.specs.Texts.{report_head, report_text, block_text, member_text, reason_letters, letter_if};
+ghost use Rattle.answer_text.specs.Texts.{report_head, report_text, block_text, member_text};
+ghost use Rattle.answer_text.specs.Texts.{reason_letters, letter_if};
 
 use bay_model::{Member, Reasons, Report};
 use object_model::Model;
@@ -58,9 +60,10 @@ fn push_members(out: &mut Vec<u8>, members: &[Member]) -> Result<(), AllocError>
     Ok(())
 }
 
-/// Writes whether entries were lost: 1 or 0 behind its word.
+/// Writes whether entries were lost: 1 or 0 after its word.
 fn push_overflow(out: &mut Vec<u8>, lost: bool) -> Result<(), AllocError>
-    ensures ok { OnOk result (out.new.items ≡ out.old.items ++ codes " ovfl " ++ (if lost then codes "1" else codes "0")) }
+    ensures ok { OnOk result (out.new.items ≡ out.old.items ++ codes " ovfl " ++ (if lost
+        then codes "1" else codes "0")) }
     ensures err { OnErr result (out.new.items ≡ out.old.items) }
 {
     out.extend_from_slice(if lost { b" ovfl 1" } else { b" ovfl 0" })
@@ -68,7 +71,8 @@ fn push_overflow(out: &mut Vec<u8>, lost: bool) -> Result<(), AllocError>
 
 /// Writes the reference of a block.
 fn push_block(out: &mut Vec<u8>, model: &Model, block: BlockNo) -> Result<(), AllocError>
-    ensures ok { OnOk result (out.new.items ≡ out.old.items ++ block_text (slice_get model.now.blocks block.0)) }
+    ensures ok { OnOk result (out.new.items ≡ out.old.items ++ block_text
+        (slice_get model.now.blocks block.0)) }
     ensures err { OnErr result (out.new.items ≡ out.old.items) }
 {
     if let Some(reference) = model.reference_of(block) {
@@ -84,7 +88,8 @@ fn push_head(
     a: AssocNo,
     report: &Report,
 ) -> Result<(), AllocError>
-    ensures ok { OnOk result (out.new.items ≡ out.old.items ++ report_head model.now a.0 report.now) }
+    ensures ok { OnOk result (out.new.items ≡ out.old.items
+        ++ report_head model.now a.0 report.now) }
     ensures err { OnErr result (take (length out.old.items) out.new.items ≡ out.old.items) }
 {
     push_number(out, u64::from(a.0))?;
@@ -107,7 +112,8 @@ pub fn push_report(
     a: AssocNo,
     report: &Report,
 ) -> Result<(), AllocError>
-    ensures ok { OnOk result (out.new.items ≡ out.old.items ++ report_text model.now a.0 report.now) }
+    ensures ok { OnOk result (out.new.items ≡ out.old.items
+        ++ report_text model.now a.0 report.now) }
     ensures err { OnErr result (take (length out.old.items) out.new.items ≡ out.old.items) }
 {
     push_head(out, model, a, report)?;

@@ -5,8 +5,11 @@ ghost use Rattle.std.specs.List.{All, list_all, AllByRecursion};
 ghost use Rattle.sv_base.specs.Seen.{seen_of, row_of};
 ghost use Rattle.sv_base.specs.Tree.{Seen};
 ghost use Rattle.mms_data.specs.Grammar.{IsSpelled};
-ghost use Rattle.output_shapes.specs.Shapes.{Ascend, IsShort, HasData, CanBeCut, HasShortName, IsShortError, IsShortTermination, IsNode, IsWritable, CanBeReplied, CanBeSent};
-ghost use Rattle.answer_text.specs.Sendable.{is_seen_writable, are_writable as are_row_writable, is_result_writable as is_written_result};
+ghost use Rattle.output_shapes.specs.Shapes.{Ascend, IsShort, HasData, CanBeCut, HasShortName};
+ghost use Rattle.output_shapes.specs.Shapes.{IsShortError, IsShortTermination, IsNode, IsWritable};
+ghost use Rattle.output_shapes.specs.Shapes.{CanBeReplied, CanBeSent};
+ghost use Rattle.answer_text.specs.Sendable.{is_seen_writable, are_writable as are_row_writable};
+ghost use Rattle.answer_text.specs.Sendable.{is_result_writable as is_written_result};
 ghost use Rattle.answer_text.specs.Sendable.{are_nodes as are_nodes_below};
 
 use bay_model::{ApplError, Member, Output, Reply, Report, Termination};
@@ -64,7 +67,7 @@ fn are_results_writable(results: &[Result<Value, u8>]) -> bool
     true
 }
 
-/// Whether these are numbers of nodes, of which there are so many.
+/// Whether these are numbers of nodes, of which there are that many.
 fn are_nodes(count: usize, nodes: &[NodeId]) -> bool
     ensures { result ≡ are_nodes_below count nodes.now }
 {
@@ -108,7 +111,8 @@ fn is_member(member: &Member) -> bool
 }
 
 fn are_members(members: &[Member]) -> bool
-    ensures { IsTrue result → AllByRecursion IsShort members.now × AllByRecursion HasData members.now }
+    ensures { IsTrue result → AllByRecursion IsShort members.now
+        × AllByRecursion HasData members.now }
 {
     match members {
         [] => true,
@@ -181,7 +185,8 @@ fn has_short_name(control: &CtlDef) -> bool
 
 /// Whether a termination has a PDU: its control is there, and all in it is of its type's octets.
 fn can_end(model: &Model, termination: &Termination) -> bool
-    ensures { IsTrue result → IsShortTermination model.now termination.now × IsWritable (Ok termination.now.oper) }
+    ensures { IsTrue result → IsShortTermination model.now termination.now
+        × IsWritable (Ok termination.now.oper) }
 {
     let Some(control) = model.config().controls.get(termination.control.0 as usize) else {
         return false;

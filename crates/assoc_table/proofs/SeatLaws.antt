@@ -77,7 +77,7 @@ below-snoc ks k n below h q is = elim (any-split (λ l. q == l) ks k is) [ inl l
 few-controls : (ks : List ℕ) → AreApart ks → ((q : ℕ) → list_any (λ l. q == l) ks ≡ true → q < 64) → length ks ≤ 64
 few-controls ks a below = length-le_from_distinct_below ks 64 (distinct ks a) below
 
--- with one more there is room, and they are a queue again
+-- with one more they fit, and they are a queue again
 pub record IsQueued (ws : List Waiting) (item : Waiting) : Type 0 where
   pub room : length ws < 80
   pub queue : IsQueue (ws ++ item ∷ [])
@@ -134,7 +134,7 @@ first_termination (w ∷ ws) k good h = let is : w ≡ Termination k good = cc i
 keep-all : (n : ℕ) (ws : List Waiting) → length ws ≤ n → keep_last n ws ≡ ws
 keep-all n ws h = let none : length ws - n ≡ 0 = omega (arith, h) in rw none refl
 
--- a queue with one more, as a room of 80 keeps it
+-- a queue with one more, as a buffer of 80 keeps it
 pub record IsPushed (now : Buffer Waiting) (count : ℕ) (all : List Waiting) : Type 0 where
   pub items : now.items ≡ all
   pub number : count ≡ replies now.items

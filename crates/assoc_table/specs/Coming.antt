@@ -8,7 +8,7 @@ use Rattle.assoc_table.specs.Seats.{Row}
 use Rattle.assoc_table.specs.Tables.{IsNumber, started, ended, extended, taken}
 use Rattle.assoc_table.specs.Standing.{waiting_of}
 
--- what is put for an association behind what waits
+-- what is put for an association after what waits
 pub record Coming : Type 0 where
   pub a : ℕ
   pub items : List Waiting

@@ -45,6 +45,6 @@ abbrev pub IsNew : Waiting → List Waiting → Type 0
 IsNew (Reply output) ws = Unit {0}
 IsNew (Termination k good) ws = (k.0 < 64) × (list_any (λ l. k.0 == l) (controls ws) ≡ false)
 
--- a 17th reply has no room
+-- a 17th reply does not fit
 abbrev pub outcome : Waiting → List Waiting → Result (Unit {0}) Full
 outcome item ws = if is_reply item && nat_le 16 (replies ws) then Err (record {}) else Ok tt

@@ -12,13 +12,16 @@ ghost use Rattle.assoc_table.specs.contracts.table.Assocs.{the_row as associatio
 
 /// Where no association is open the table stands for the empty history. Where it stands for a past, it stands for the arrival of
 /// the next point as it is; from there, after an association is opened or ended, its oldest output is taken, or what the deed puts
-/// for one association, and for no other, is put behind what waits, for the point itself; and as it is for a further arrival.
+/// for one association, and for no other, is put after what waits, for the point itself; and as it is for a further arrival.
 pub fn associations_stand()
     ensures empty { (c : Model) → Stands (replicate 16 closed) c [] }
-    ensures arrival { (c : Model) (m n : ℕ) (before : Past) (rows : List Row) → Stands rows c before → Stands rows c (arrival n m ∷ before) }
+    ensures arrival { (c : Model) (m n : ℕ) (before : Past) (rows : List Row) → Stands rows c before
+        → Stands rows c (arrival n m ∷ before) }
     ensures deed { (c : Model) (m n : ℕ) (d : Deed) (before : Past) (rows : List Row) (k : Coming)
-        → Stands rows c (arrival n m ∷ before) → IsComing k c n d before → Stands (came d k rows) c (record { moment = m; step = n; deed = d } ∷ before) }
-    ensures again { (c : Model) (m n : ℕ) (q : Point) (before : Past) (rows : List Row) → Stands rows c (q ∷ before)
+        → Stands rows c (arrival n m ∷ before) → IsComing k c n d before
+        → Stands (came d k rows) c (record { moment = m; step = n; deed = d } ∷ before) }
+    ensures again { (c : Model) (m n : ℕ) (q : Point) (before : Past) (rows : List Row)
+        → Stands rows c (q ∷ before)
         → Stands rows c (arrival n m ∷ q ∷ before) }
 {}
 

@@ -10,7 +10,7 @@ use sv_base::CtlNo;
 /// The most replies that wait.
 const REPLIES: usize = 16;
 
-/// Room for the replies, and for a termination of each of 64 controls.
+/// Memory for the replies, and for a termination of each of 64 controls.
 const ROOM: usize = 80;
 
 /// An association: its ends where it is open, and what waits for it.
@@ -34,15 +34,17 @@ impl Model for Seat {
 
     ghost view = { λ s. record { ends = s.ends; waiting = s.waiting.items } };
 
-    ghost invariant = { λ s. (s.replies ≡ replies_of s.waiting.items) × IsQueue s.waiting.items × (s.waiting.capacity ≡ 80) };
+    ghost invariant = { λ s. (s.replies ≡ replies_of s.waiting.items) × IsQueue s.waiting.items
+        × (s.waiting.capacity ≡ 80) };
 }
 
 impl Seat {
-    ghost use Rattle.std.specs.Prelude.{◌≡◌, ◌++◌, ◌∷◌, [], Some, nat_le, drop, slice_get, option_copied, IfOk, OnOk, OnErr};
+    ghost use Rattle.std.specs.Prelude.{◌≡◌, ◌++◌, ◌∷◌, [], Some, nat_le, drop, slice_get};
+    ghost use Rattle.std.specs.Prelude.{option_copied, IfOk, OnOk, OnErr};
     ghost use Rattle.assoc_table.specs.Seats.{closed, replies as replies_in, IsNew, outcome};
     ghost use Rattle.assoc_table.specs.declared.waiting.Waiting.TheVariants.{Reply, Termination};
 
-    /// Not open, with all the room that is ever needed.
+    /// Not open, with all the memory that is ever needed.
     pub fn new(alloc: Global) -> Result<Seat, AllocError>
         ensures { IfOk result (λ s. s ≡ closed) }
     {
@@ -78,18 +80,21 @@ impl Seat {
         self.ends = None;
     }
 
-    /// No reply has room.
+    /// No reply has capacity.
     pub fn is_full(&self) -> bool
         ensures { result ≡ nat_le 16 (replies_in self.now.waiting) }
     {
         REPLIES <= self.replies
     }
 
-    /// Puts a reply behind what waits.
+    /// Puts a reply after what waits.
     #[tactic(auto, using(crate::proofs::SeatLaws::pushed_reply))]
     fn queue_reply(&mut self, output: Output) -> Result<(), Full>
         ensures answer { result ≡ outcome (Reply output) self.old.waiting }
-        ensures queued { OnOk result (self.new ≡ record { ends = self.old.ends; waiting = self.old.waiting ++ Reply output ∷ [] }) }
+        ensures queued { OnOk result (self.new ≡ record {
+          ends = self.old.ends;
+          waiting = self.old.waiting ++ Reply output ∷ [];
+        }) }
         ensures kept { OnErr result (self.new ≡ self.old) }
     {
         if self.is_full() {
@@ -100,20 +105,27 @@ impl Seat {
         Ok(())
     }
 
-    /// Puts a termination behind what waits.
+    /// Puts a termination after what waits.
     #[tactic(auto, using(crate::proofs::SeatLaws::pushed_termination))]
     fn queue_termination(&mut self, control: CtlNo, good: bool)
         requires { IsNew (Termination control good) self.old.waiting }
-        ensures { self.new ≡ record { ends = self.old.ends; waiting = self.old.waiting ++ Termination control good ∷ [] } }
+        ensures { self.new ≡ record {
+          ends = self.old.ends;
+          waiting = self.old.waiting
+              ++ Termination control good ∷ [];
+        } }
     {
         self.waiting.push_back(Waiting::Termination(control, good));
     }
 
-    /// Puts an item behind those that wait.
+    /// Puts an item after those that wait.
     pub fn queue(&mut self, item: Waiting) -> Result<(), Full>
         requires { IsNew item self.old.waiting }
         ensures answer { result ≡ outcome item self.old.waiting }
-        ensures queued { OnOk result (self.new ≡ record { ends = self.old.ends; waiting = self.old.waiting ++ item ∷ [] }) }
+        ensures queued { OnOk result (self.new ≡ record {
+          ends = self.old.ends;
+          waiting = self.old.waiting ++ item ∷ [];
+        }) }
         ensures kept { OnErr result (self.new ≡ self.old) }
     {
         match item {
@@ -136,7 +148,10 @@ impl Seat {
     #[tactic(auto, using(crate::proofs::SeatLaws::first_none, crate::proofs::SeatLaws::first_reply, crate::proofs::SeatLaws::first_termination, crate::proofs::SeatLaws::queue_rest))]
     pub fn pop(&mut self) -> Option<Waiting>
         ensures value { result ≡ slice_get self.old.waiting 0 }
-        ensures left { self.new ≡ record { ends = self.old.ends; waiting = drop 1 self.old.waiting } }
+        ensures left { self.new ≡ record {
+          ends = self.old.ends;
+          waiting = drop 1 self.old.waiting;
+        } }
     {
         match self.waiting.pop_front() {
             None => None,

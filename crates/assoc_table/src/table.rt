@@ -32,12 +32,13 @@ impl Model for Assocs {
 }
 
 impl Assocs {
-    ghost use Rattle.std.specs.Prelude.{◌≡◌, ◌∷◌, [], None, nat_le, is_some, replicate, slice_get, option_copied, IfOk, OnOk, OnErr};
+    ghost use Rattle.std.specs.Prelude.{◌≡◌, ◌∷◌, [], None, nat_le, is_some, replicate, slice_get};
+    ghost use Rattle.std.specs.Prelude.{option_copied, IfOk, OnOk, OnErr};
     ghost use Rattle.std.specs.Option.{option_map};
     ghost use Rattle.assoc_table.specs.Seats.{closed, replies, IsNew, outcome};
     ghost use Rattle.assoc_table.specs.Tables.{IsNumber, row_of, started, ended, extended, taken};
 
-    /// No association is open. All the room that they ever need is made.
+    /// No association is open. All the memory that they ever need is allocated.
     pub fn open(alloc: Global) -> Result<Assocs, AllocError>
         ensures { IfOk result (λ t. t ≡ replicate 16 closed) }
     {
@@ -112,7 +113,7 @@ impl Assocs {
         self.seats[a.0 as usize - 1].end();
     }
 
-    /// Puts an item behind those that wait for an association. It takes no memory.
+    /// Puts an item after those that wait for an association. It takes no memory.
     ///
     /// Full exactly where the item is a reply and 16 replies wait. No termination of the item's control waits already.
     pub fn queue(&mut self, a: AssocNo, item: Waiting) -> Result<(), Full>

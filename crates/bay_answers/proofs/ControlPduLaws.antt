@@ -113,7 +113,7 @@ termination-short c t h = by (slice_get c.controls t.control.0) refl where
 pub is_list : (variables : List ℕ) → length variables < 2 ^ 32 → IsSpecificationElement (octets_of 0xa0 variables)
 is_list variables small = (written 0xa0 variables, is_spelling 0xa0 variables (one_octet 0xa0 (omega arith) (λ e. omega (arith, e))) small, omega arith, omega arith)
 
--- ---- elements behind one another
+-- ---- elements after one another
 
 pub five : (a b c d e m n o p q r : List ℕ) → m ≡ [] → n ≡ m ++ a → o ≡ n ++ b → p ≡ o ++ c → q ≡ p ++ d → r ≡ q ++ e → r ≡ a ++ (b ++ (c ++ (d ++ e)))
 five a b c d e m n o p q r none first second third fourth fifth =

@@ -34,7 +34,7 @@ abbrev pub TellsCode : Element → Result (Unit {0}) ℕ → Type 0
 TellsCode e (Ok done) = (e.tag ≡ SUCCESS) × (e.content ≡ [])
 TellsCode e (Err code) = TellsFailure e code
 
--- the octets are elements that tell these, one each and in order
+-- the octets are elements that say these, one each and in order
 abbrev pub AreTold : {A : Type 0} → (Element → A → Type 0) → List ℕ → List A → Type 0
 AreTold Tells octets told = (es : List Element) × IsRow octets es × Each Tells es told
 

@@ -3,10 +3,13 @@
 
 ghost use Rattle.std.specs.Prelude.{◌≡◌, ◌≤◌, ◌<◌, ◌++◌, ◌^◌, length, OnOk, IfOk};
 ghost use Rattle.sv_base.specs.Data.{data_of};
-ghost use Rattle.output_shapes.specs.Shapes.{oper_item as item_of, IsShortTermination, HasShortName, IsWritable};
-ghost use Rattle.bay_answers.specs.ControlPdus.{error_variable, origin_octets, error_parts, error_data as data_of_error};
+ghost use Rattle.output_shapes.specs.Shapes.{oper_item as item_of, IsShortTermination};
+ghost use Rattle.output_shapes.specs.Shapes.{HasShortName, IsWritable};
+ghost use Rattle.bay_answers.specs.ControlPdus.{error_variable, origin_octets, error_parts};
+ghost use Rattle.bay_answers.specs.ControlPdus.{error_data as data_of_error};
 ghost use Rattle.bay_answers.specs.ControlPdus.{oper_variable, error_pdu as pdu_of_error};
-ghost use Rattle.bay_answers.specs.ControlPdus.{termination_of, termination_pdu as pdu_of_termination, report_of};
+ghost use Rattle.bay_answers.specs.ControlPdus.{termination_of};
+ghost use Rattle.bay_answers.specs.ControlPdus.{termination_pdu as pdu_of_termination, report_of};
 ghost use Rattle.std.specs.Prelude.{Ok};
 
 use crate::control_errors;
@@ -124,7 +127,8 @@ fn bad_end(
 ) -> Result<Octs, AllocError>
     requires name { HasShortName control.now }
     requires oper { IsWritable (Ok oper.now) }
-    ensures { IfOk result (λ o. o ≡ report_of (error_variable ++ oper_variable control.now) (data_of_error error.now ++ data_of oper.now)) }
+    ensures { IfOk result (λ o. o ≡ report_of (error_variable ++ oper_variable control.now)
+        (data_of_error error.now ++ data_of oper.now)) }
 {
     let mut variables = Vec::new(alloc);
     add_error_variable(alloc, &mut variables)?;
@@ -139,7 +143,8 @@ fn bad_end(
 fn ended(alloc: Global, control: &CtlDef, termination: &Termination) -> Result<Octs, AllocError>
     requires name { HasShortName control.now }
     requires oper { IsWritable (Ok termination.now.oper) }
-    ensures { IfOk result (λ o. o ≡ termination_of control.now termination.now termination.now.error) }
+    ensures { IfOk result (λ o. o
+        ≡ termination_of control.now termination.now termination.now.error) }
 {
     match &termination.error {
         None => good_end(alloc, control, &termination.oper),

@@ -3,9 +3,13 @@
 ghost use Rattle.std.specs.Prelude.{◌≡◌, ◌≤◌, ◌∷◌, ◌++◌, [], length, map, Ok, IfOk, OnOk};
 ghost use Rattle.std.specs.List.{AllByRecursion};
 ghost use Rattle.mms_pdu.specs.ReplyOctets.{concluded_octets};
-ghost use Rattle.output_shapes.specs.Shapes.{CanBeReplied, CanBeSent, IsWritable, IsShortTermination};
-ghost use Rattle.bay_answers.specs.Replies.{rejected as rejected_of, reply_octets as octets_of_reply, output_pdus as pdus_of};
-ghost use Rattle.bay_answers.specs.ControlPdus.{error_pdu as pdu_of_error, termination_pdu as pdu_of_termination};
+ghost use Rattle.output_shapes.specs.Shapes.{CanBeReplied, CanBeSent, IsWritable};
+ghost use Rattle.output_shapes.specs.Shapes.{IsShortTermination};
+ghost use Rattle.bay_answers.specs.Replies.{rejected as rejected_of};
+ghost use Rattle.bay_answers.specs.Replies.{reply_octets as octets_of_reply};
+ghost use Rattle.bay_answers.specs.Replies.{output_pdus as pdus_of};
+ghost use Rattle.bay_answers.specs.ControlPdus.{error_pdu as pdu_of_error};
+ghost use Rattle.bay_answers.specs.ControlPdus.{termination_pdu as pdu_of_termination};
 ghost use Rattle.sv_base.specs.declared.rejections.TheConstants.{UNKNOWN_PDU, INVALID_PDU};
 
 use crate::control_pdus::{error_pdu, termination_pdu};
@@ -101,7 +105,8 @@ fn replied(
     requires reply { CanBeReplied model.now reply.now }
     requires least { 1024 ≤ size }
     requires most { size ≤ 65000 }
-    ensures { IfOk result (λ p. p ≡ map pdu_of_error before.now ++ octets_of_reply model.now size invoke reply.now ∷ []) }
+    ensures { IfOk result (λ p. p ≡ map pdu_of_error before.now
+        ++ octets_of_reply model.now size invoke reply.now ∷ []) }
 {
     let mut pdus = Vec::new(alloc);
     add_errors(alloc, &mut pdus, before.as_slice())?;
@@ -138,7 +143,7 @@ fn output_pdus(alloc: Global, model: &Model, output: &Output, size: u32) -> Resu
     }
 }
 
-/// The PDUs of what a Take gives to an association whose PDUs have at most `size` octets, 1024 to 65000: of a reply its own behind
+/// The PDUs of what a Take gives to an association whose PDUs have at most `size` octets, 1024 to 65000: of a reply its own after
 /// one for each LastApplError before it, of a report one or its segments, of a termination one.
 ///
 /// Each is in minimal form. A response that is longer than the size is the error service, pdu-size. GetNameList has as many
@@ -147,7 +152,7 @@ fn output_pdus(alloc: Global, model: &Model, output: &Output, size: u32) -> Resu
 /// Each node and control in the output is one of the model's, a reject has the number of a refusal, 1 to 4, a report is one that can
 /// be cut, and a value has a spelling at most ten deep. What is said of a command has at most the octets of its type.
 ///
-/// Fails only for want of memory.
+/// Fails only when out of memory.
 pub fn to_bytes(
     alloc: Global,
     model: &Model,

@@ -3,11 +3,15 @@
 ghost use Rattle.std.specs.Prelude.{◌≡◌, ◌≤◌, ◌++◌, length, min, OnOk, IfOk};
 ghost use Rattle.std.specs.List.{All};
 ghost use Rattle.ber_write.specs.Minimal.{octets_of, uint_octets};
-ghost use Rattle.mms_elements.specs.declared.tags.TheConstants.{GET_ATTRIBUTES, READ, WRITE, GET_LIST_ATTRIBUTES, DELETE_LIST, FAILURE, LIST_OF_RESULT};
+ghost use Rattle.mms_elements.specs.declared.tags.TheConstants.{GET_ATTRIBUTES, READ, WRITE};
+ghost use Rattle.mms_elements.specs.declared.tags.TheConstants.{GET_LIST_ATTRIBUTES, DELETE_LIST};
+ghost use Rattle.mms_elements.specs.declared.tags.TheConstants.{FAILURE, LIST_OF_RESULT};
 ghost use Rattle.object_model.specs.Tables.{node_type};
 ghost use Rattle.bay_answers.specs.declared.tags.TheConstants.{IDENTIFY};
-ghost use Rattle.bay_answers.specs.RepliesContents.{identify_content, type_content, result_octets, results_octets, read_content};
-ghost use Rattle.bay_answers.specs.RepliesContents.{written_octets, written_content, set_content, deleted_content};
+ghost use Rattle.bay_answers.specs.RepliesContents.{identify_content, type_content, result_octets};
+ghost use Rattle.bay_answers.specs.RepliesContents.{results_octets, read_content};
+ghost use Rattle.bay_answers.specs.RepliesContents.{written_octets, written_content, set_content};
+ghost use Rattle.bay_answers.specs.RepliesContents.{deleted_content};
 ghost use Rattle.output_shapes.specs.Shapes.{IsWritable, IsNode};
 ghost use Rattle.bay_answers.specs.Replies.{response};
 
@@ -52,7 +56,8 @@ pub(crate) fn type_of_node(
 ) -> Result<Octs, AllocError>
     requires node { IsNode model.now node }
     requires most { size ≤ 65000 }
-    ensures { IfOk result (λ o. o ≡ response size invoke GET_ATTRIBUTES (type_content (node_type model.now node.0))) }
+    ensures { IfOk result (λ o. o ≡ response size invoke GET_ATTRIBUTES
+        (type_content (node_type model.now node.0))) }
 {
     let mut kind = Vec::new(alloc);
     write_type(model.type_of(node), &mut kind)?;
@@ -128,7 +133,8 @@ fn put_read(
 ) -> Result<(), AllocError>
     requires results { All IsWritable results.now }
     requires len { len ≡ length (results_octets results.now) }
-    ensures { OnOk result (out.new.items ≡ out.old.items ++ (asked.now ++ octets_of LIST_OF_RESULT (results_octets results.now))) }
+    ensures { OnOk result (out.new.items ≡ out.old.items ++ (asked.now ++ octets_of LIST_OF_RESULT
+        (results_octets results.now))) }
 {
     out.extend_from_slice(asked)?;
     put_head(out, pdu_tags::LIST_OF_RESULT, len)?;
@@ -146,7 +152,8 @@ pub(crate) fn read(
 ) -> Result<Octs, AllocError>
     requires results { All IsWritable results.now }
     requires most { size ≤ 65000 }
-    ensures { IfOk result (λ o. o ≡ response size invoke READ (read_content asked.now results.now)) }
+    ensures { IfOk result (λ o. o ≡ response size invoke READ
+        (read_content asked.now results.now)) }
 {
     let len = results_len(results);
     if len > size {
@@ -215,7 +222,8 @@ pub(crate) fn members_of_set(
 ) -> Result<Octs, AllocError>
     requires members { All (IsNode model.now) members.now }
     requires most { size ≤ 65000 }
-    ensures { IfOk result (λ o. o ≡ response size invoke GET_LIST_ATTRIBUTES (set_content model.now deletable members.now)) }
+    ensures { IfOk result (λ o. o ≡ response size invoke GET_LIST_ATTRIBUTES
+        (set_content model.now deletable members.now)) }
 {
     let mut list = Vec::new(alloc);
     add_nodes(alloc, &mut list, model, members)?;
@@ -240,7 +248,8 @@ pub(crate) fn deleted(
     deleted: u32,
 ) -> Result<Octs, AllocError>
     requires { size ≤ 65000 }
-    ensures { IfOk result (λ o. o ≡ response size invoke DELETE_LIST (deleted_content matched deleted)) }
+    ensures { IfOk result (λ o. o ≡ response size invoke DELETE_LIST
+        (deleted_content matched deleted)) }
 {
     let mut content = Vec::new(alloc);
     put_uint(&mut content, tags::NUMBER_MATCHED, u64::from(matched))?;

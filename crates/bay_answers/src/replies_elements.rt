@@ -22,7 +22,7 @@ pub(crate) fn add_truth(out: &mut Vec<u8>, tag: u32, value: bool) -> Result<(), 
     put(out, tag, &[if value { 0xff } else { 0 }])
 }
 
-/// How many octets an element has whose content has so many.
+/// How many octets an element has whose content has that many.
 #[tactic(auto, unfolding(ber_write::specs::Minimal::element_size), using(ber_write::proofs::LengthLaws::at_most_five))]
 pub(crate) fn element_len(n: u32) -> u32
     requires { n < 2 ^ 24 }
@@ -32,7 +32,7 @@ pub(crate) fn element_len(n: u32) -> u32
     1 + length_of(n) + n
 }
 
-/// How many octets the invoke number and a service's element have whose content has so many.
+/// How many octets the invoke number and a service's element have whose content has that many.
 #[tactic(auto, unfolding(crate::specs::RepliesSizes::service_size))]
 pub(crate) fn service_len(invoke: u32, n: u32) -> u32
     requires { n < 2 ^ 20 }
@@ -42,7 +42,7 @@ pub(crate) fn service_len(invoke: u32, n: u32) -> u32
     element_len(uint_len(u64::from(invoke))) + element_len(n)
 }
 
-/// What stands in the PDU of a response before the content, of `n` octets, of the service's element with this tag, and room
+/// What stands in the PDU of a response before the content, of `n` octets, of the service's element with this tag, and memory
 /// for the whole PDU; none where that is longer than the size.
 #[tactic(auto, using(crate::proofs::RepliesSizeLaws::holds_too_much, crate::proofs::RepliesSizeLaws::is_too_long, crate::proofs::RepliesSizeLaws::fits))]
 pub(crate) fn begin(

@@ -13,7 +13,7 @@ use mms_elements::tags as pdu_tags;
 use std::alloc::{AllocError, Global};
 use sv_base::Octs;
 
-/// How many octets the PDU has whose identifiers have so many.
+/// How many octets the PDU has whose identifiers have that many.
 #[tactic(auto, unfolding(crate::specs::RepliesSizes::names_size))]
 fn names_len(invoke: u32, n: u32) -> u32
     requires { n ≤ 131072 }

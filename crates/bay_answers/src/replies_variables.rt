@@ -4,8 +4,11 @@ ghost use Rattle.std.specs.Prelude.{◌≡◌, ◌<◌, ◌++◌, length, OnOk, 
 ghost use Rattle.ber_write.specs.Minimal.{octets_of, CanBeTag};
 ghost use Rattle.std.specs.List.{All, flat_map};
 ghost use Rattle.mms_pdu.specs.AskingOctets.{domain_name};
-ghost use Rattle.mms_elements.specs.declared.tags.TheConstants.{LIST_OF_VARIABLE, SPECIFICATION_OF_RESULT, VARIABLE_LIST_NAME};
-ghost use Rattle.bay_answers.specs.RepliesVariables.{name_octets, variable_octets, target_octets, asked_octets as asked_of};
+ghost use Rattle.mms_elements.specs.declared.tags.TheConstants.{LIST_OF_VARIABLE};
+ghost use Rattle.mms_elements.specs.declared.tags.TheConstants.{SPECIFICATION_OF_RESULT};
+ghost use Rattle.mms_elements.specs.declared.tags.TheConstants.{VARIABLE_LIST_NAME};
+ghost use Rattle.bay_answers.specs.RepliesVariables.{name_octets, variable_octets, target_octets};
+ghost use Rattle.bay_answers.specs.RepliesVariables.{asked_octets as asked_of};
 ghost use Rattle.bay_answers.specs.RepliesVariables.{node_name as name_of_node, node_octets};
 ghost use Rattle.output_shapes.specs.Shapes.{IsNode};
 
@@ -76,7 +79,8 @@ fn add_targets(alloc: Global, out: &mut Vec<u8>, targets: &[Target]) -> Result<(
 /// The specification of variables that has this content, under its tag.
 fn specification(alloc: Global, tag: u32, content: &[u8]) -> Result<Vec<u8>, AllocError>
     requires { CanBeTag tag }
-    ensures { IfOk result (λ v. v.items ≡ octets_of SPECIFICATION_OF_RESULT (octets_of tag content.now)) }
+    ensures { IfOk result (λ v. v.items ≡ octets_of SPECIFICATION_OF_RESULT
+        (octets_of tag content.now)) }
 {
     let inner = enclosed(alloc, tag, content)?;
     enclosed(alloc, tags::SPECIFICATION_OF_RESULT, inner.as_slice())
@@ -84,7 +88,8 @@ fn specification(alloc: Global, tag: u32, content: &[u8]) -> Result<Vec<u8>, All
 
 /// Variables that were asked for, as a list.
 fn asked_variables(alloc: Global, targets: &[Target]) -> Result<Vec<u8>, AllocError>
-    ensures { IfOk result (λ v. v.items ≡ octets_of SPECIFICATION_OF_RESULT (octets_of LIST_OF_VARIABLE (flat_map target_octets targets.now))) }
+    ensures { IfOk result (λ v. v.items ≡ octets_of SPECIFICATION_OF_RESULT
+        (octets_of LIST_OF_VARIABLE (flat_map target_octets targets.now))) }
 {
     let mut list = Vec::new(alloc);
     add_targets(alloc, &mut list, targets)?;
@@ -93,7 +98,8 @@ fn asked_variables(alloc: Global, targets: &[Target]) -> Result<Vec<u8>, AllocEr
 
 /// A data set that was asked for, by its name.
 fn asked_set(alloc: Global, set: &SetName) -> Result<Vec<u8>, AllocError>
-    ensures { IfOk result (λ v. v.items ≡ octets_of SPECIFICATION_OF_RESULT (octets_of VARIABLE_LIST_NAME (domain_name set.now.domain set.now.item))) }
+    ensures { IfOk result (λ v. v.items ≡ octets_of SPECIFICATION_OF_RESULT
+        (octets_of VARIABLE_LIST_NAME (domain_name set.now.domain set.now.item))) }
 {
     let name = domain_octets(alloc, set.domain.as_slice(), set.item.as_slice())?;
     specification(alloc, tags::VARIABLE_LIST_NAME, name.as_slice())
@@ -136,7 +142,8 @@ pub(crate) fn add_nodes(
     nodes: &[NodeId],
 ) -> Result<(), AllocError>
     requires { All (IsNode model.now) nodes.now }
-    ensures { OnOk result (out.new.items ≡ out.old.items ++ flat_map (node_octets model.now) nodes.now) }
+    ensures { OnOk result (out.new.items ≡ out.old.items ++ flat_map
+        (node_octets model.now) nodes.now) }
 {
     for node in nodes {
         add_node(alloc, out, model, *node)?;

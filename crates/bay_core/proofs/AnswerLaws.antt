@@ -85,7 +85,7 @@ sound-values (more s r) is =
 
 -- ---- the data set of a name
 
--- the model's set behind the members that were found in the book
+-- the model's set after the members that were found in the book
 set-told : (book : Book) (name : SetName) → option_map (λ k. data_set (set_at book k)) (number_named name book) ≡ set_named name (sets_in book)
 set-told book name = history.found (λ (s : Booked). is_name name s.name) (is_named name) (λ s. refl) book.sets
 

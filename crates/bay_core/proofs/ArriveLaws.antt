@@ -122,7 +122,7 @@ general-are s a b comp v part has there = λ c n t past here.
 
 -- ---- the parts fit the configuration then
 
--- the data set of a part, the room of what it gathers, and its attributes stay
+-- the data set of a part, the memory of what it gathers, and its attributes stay
 record IsKept (part new : ReportBlock) : Type 0 where
   set : new.set ≡ part.set
   room : new.window.members ≡ part.window.members

@@ -1,4 +1,4 @@
--- A request is answered, and its reply waits with the terminations of its tests behind it.
+-- A request is answered, and its reply waits with the terminations of its tests after it.
 use Rattle.std.proofs.Common.{◌≡◌, ◌∙◌, ℕ, suc, true, false, List, [], ◌∷◌, ◌++◌, map, Option, None, Some, length, refl, ap, ap₂, sym, subst, arith, unwrap_or}
 use Rattle.std.specs.Prelude.{◌==◌, nat_le, if◌then◌else◌}
 use Rattle.std.specs.Option.{option_map, option_map_or}
@@ -145,7 +145,7 @@ unchanged-by m past _ is = refl
 
 -- ---- the reply
 
--- behind a reply with what came of the data sets, and the terminations of the step's tests, where the book and the numbers of the blocks'
+-- after a reply with what came of the data sets, and the terminations of the step's tests, where the book and the numbers of the blocks'
 -- sets are those then
 pub changed-with : (z w : State) (c : Config) (n t a : ℕ) (output : Output) (change : Change) (ks : List CtlNo) (past : Past) → map (λ (k : CtlNo). k.0) ks ≡ tests (configured_model c) n past → IsNumber a → StandsAt z c n (arrival n t ∷ past)
     → w ≡ record z { book = w.book; parts = w.parts } → BlocksStand (configured_model c) (arrival n t ∷ past) w.parts

@@ -59,7 +59,7 @@ node-single z u a n v code before after kept controls plain write is = subst (λ
 
 -- ---- a command
 
--- the bay behind what it comes to
+-- the bay after what it comes to
 called-at : (z : State) (c : Config) (n t a k : ℕ) (call : Call) (v : Value) (past : Past) (w : Went) → StandsAt z c n (arrival n t ∷ past)
     → StandsAt (record z { controls = after_deed (deed_of (outcome_of_call (configured_model c) a k call v w)) z.controls }) c n (at n t (deed_of (outcome_of_call (configured_model c) a k call v w)) ∷ past)
 called-at z c n t a k call v past accepted here =

@@ -1,4 +1,4 @@
--- The reply to a definition and to deletions, and the bay behind it.
+-- The reply to a definition and to deletions, and the bay after it.
 use Rattle.std.proofs.Common.{◌≡◌, ◌∙◌, ◌∷◌, ◌++◌, ℕ, suc, max, Bool, true, false, List, [], length, map, Option, None, Some, is_some, refl, ap, ap₂, sym, subst, append_assoc}
 use Rattle.std.specs.Prelude.{◌==◌, slice_get, if◌then◌else◌}
 use Rattle.std.specs.Option.{option_map, option_map_or}

@@ -160,7 +160,7 @@ whole-defined c stored groups book s parts w v octets room latest dues events co
       controls = whole.controls;
     }
 
--- more room alone leaves a bay whole
+-- more capacity alone leaves a bay whole
 pub whole-roomier : (c : Config) (stored : List Stored) (groups : Grouped) (book : Book) (parts : List ReportBlock) (w v : Watch) (octets : Filled ℕ) (room latest : ℕ) (dues : List (Option ℕ)) (events : EventRoom) (controls : Table)
     → v ≡ record w { index = v.index } → IsRoomier w.index v.index → IsWhole c stored groups book parts w octets room latest dues events controls → IsWhole c stored groups book parts v octets room latest dues events controls
 whole-roomier c stored groups book parts w v octets room latest dues events controls same more whole =

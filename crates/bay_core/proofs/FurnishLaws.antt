@@ -69,6 +69,6 @@ module _ (c : Config) (stored : List Stored) (book : Book) (parts : List ReportB
     pub part-fits : IsLent (node_rows c) book part × (members_in (node_rows c) book part ≡ served_members c book part.block.options.dat_set)
     part-fits = (part-lent c book old.booked.served part (old.sets b part there), part-members c book old.booked.served part (old.sets b part there))
 
-    -- there is room for what a part has gathered
+    -- there is capacity for what a part has gathered
     pub entry-room : 504 * part.window.members ≤ octets.room
     entry-room = omega (arith, old.windows b part there, old.entry)

@@ -277,7 +277,7 @@ module _ (z : State) (served : IsServable z.config) (held : AreHeld z.config z.s
   -- ---- an edit copy
 
   module _ (a k : ℕ) (v : Value) (within : k < length z.groups.settings) where
-    -- the number of the copy: the copies stand behind all other attributes
+    -- the number of the copy: the copies stand after all other attributes
     abbrev number : ℕ
     number = copies_from z.stored z.groups + k
 

@@ -1,4 +1,4 @@
--- A bay behind the reads of variables of a request, and the reply to it.
+-- A bay after the reads of variables of a request, and the reply to it.
 use Rattle.std.proofs.Common.{◌≡◌, ◌<◌, ◌∙◌, ℕ, zero, List, [], ◌∷◌, map, length, refl, sym, ap, subst, arith, unwrap_or}
 use Rattle.std.specs.Prelude.{Bool, if◌then◌else◌, Some, Result}
 use Rattle.std.specs.Option.{option_map}
@@ -58,7 +58,7 @@ target-there c grouped (targets.Node id name) k is = selecting-there c grouped i
 target-there c grouped (targets.Missing name) k is = cc
 target-there c grouped (targets.Alternate name) k is = cc
 
--- ---- the bay behind the reads
+-- ---- the bay after the reads
 
 idled : (z : State) (c : Config) (n t : ℕ) (d : Deed) (past : Past) → IsIdle d → StandsAt z c n (arrival n t ∷ past) → StandsAt (record z { controls = after_deed d z.controls }) c n (at n t d ∷ past)
 idled z c n t nothing past is here = here

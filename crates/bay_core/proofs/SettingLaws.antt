@@ -213,7 +213,7 @@ pub held-set : (s : State) (c : Config) (old new : List Stored) (settings lent :
 held-set s c old new settings lent is fit held same set count =
     held-after c old new settings held (typed-settings c settings (ap (λ q. fits q (steps.Value settings)) is ∙ fit)) (λ x. set x ∙ ap (λ l. last_set l x (attribute old x)) same) count
 
--- the room of what is gathered stays
+-- the memory of what is gathered stays
 same-window : (moment step : ℕ) (part : ReportBlock) (ps : List Piece) → (after_noting moment step ps part).window.members ≡ part.window.members
 same-window moment step part [] = refl
 same-window moment step part (p ∷ ps) = refl
@@ -242,7 +242,7 @@ furnished-all c book old stored lent parts w v octets kept room more changes row
       changes = omega (arith, was.changes, same, grew);
     }
 
--- each part has room for its entry
+-- each part has capacity for its entry
 ready-at : (c : Config) (rows : List NodeRow) (book : Book) (stored : List Stored) (part : ReportBlock) → IsServable c → AreServedSets c book → AreHeld c stored → IsLent rows book part → members_in rows book part ≡ served_members c book part.block.options.dat_set
     → part.window.members ≡ 256 → IsReady rows book stored part
 ready-at c rows book stored part served booked held lent has rooms =

@@ -141,7 +141,7 @@ module _ (r : Replies) (a n t : ℕ) (there : (x k : ℕ) → selecting_of (node
   abbrev own : Model
   own = configured_model r.model.now
 
-  -- what is lent reads as it does behind these points
+  -- what is lent reads as it does after these points
   abbrev pub IsTold : Past → Type 0
   IsTold past = (x : ℕ) → selecting_of (node_of own x).role ≡ None → read_node own a x (arrival n t ∷ past) ≡ outcome_of_read (node_read r x)
 

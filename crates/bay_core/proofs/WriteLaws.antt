@@ -155,7 +155,7 @@ module _ (m : Model) (n t b : ℕ) (a : AssocNo) (owner : List ℕ) (comp : Comp
 
 -- ---- the bay
 
--- the state behind a write that was answered so, from that at its arrival
+-- the state after a write that was answered so, from that at its arrival
 abbrev pub behind : State → ℕ → ReportBlock → State
 behind z b part = record z { parts = slice_set z.parts b part }
 
@@ -292,7 +292,7 @@ module _ (now step : ℕ) (a : AssocNo) (owner : List ℕ) (comp : Comp) (v : Va
     by comps.IntgPd _ named is answer = has
     by _ v named is answer = has
 
-  -- the room of what is gathered stays
+  -- the memory of what is gathered stays
   pub windows-stay : (r : Result Effect ℕ) → (after_writing a owner comp v named now step all part r).window.members ≡ part.window.members
   windows-stay (Err code) = refl
   windows-stay (Ok e) = by (is_general e || is_purging e) where

@@ -1,4 +1,4 @@
--- What a request makes of a bay: its reply, and the bay behind its single reads and writes, at the arrival of the reply's point
+-- What a request makes of a bay: its reply, and the bay after its single reads and writes, at the arrival of the reply's point
 -- (ISO 9506-2, the confirmed services).
 use Rattle.std.specs.Prelude.{◌≡◌, ℕ, List, [], ◌∷◌, ◌<◌, length, true, Option, Result, map}
 use Rattle.sv_base.specs.declared.config.Config.{Config}
@@ -43,11 +43,11 @@ abbrev pub IsAnswered : State → State → ℕ → ℕ → Service → Reply �
 IsAnswered old new moment a service r = IsReplyAt old moment a service r
     × ((c : Config) (n : ℕ) (past : Past) → StandsAt old c n past → StandsAt new c n (arrival n moment ∷ after_singles (configured_model c) a n moment (singles_of (configured_model c) past service) past))
 
--- the reply was put behind what waits for a
+-- the reply was put after what waits for a
 abbrev pub replied : State → ℕ → Output → State
 replied s a output = record s { rows = extended s.rows a (waits.Reply output ∷ []) }
 
--- And behind the reply, once it is put for a, the new state stands for the points of the request, the last of which says what came of
+-- And after the reply, once it is put for a, the new state stands for the points of the request, the last of which says what came of
 -- the data sets.
 abbrev pub IsReplied : State → State → ℕ → ℕ → Service → Reply → Type 0
 IsReplied old new moment a service r = IsReplyAt old moment a service r

@@ -1,5 +1,5 @@
 -- What a request comes to in a bay (ISO 9506-2, the confirmed services; IEC 61850-8-1, LastApplError; IEC 61850-7-2, Operate and
--- CommandTermination): its reply with the errors before it, the controls that act, and the terminations of tests behind the reply.
+-- CommandTermination): its reply with the errors before it, the controls that act, and the terminations of tests after the reply.
 use Rattle.std.specs.Prelude.{◌≡◌, ℕ, List, [], ◌∷◌, map, flat_map}
 use Rattle.std.specs.List.{filter_map}
 use Rattle.sv_base.specs.declared.config.Config.{Config}
@@ -31,7 +31,7 @@ pub record IsOf (m : Model) (os : List Outcome) (r : Reply) (x : Came) : Type 0 
   pub acts : x.acts.items ≡ acts_in os
   pub tests : map (λ (k : CtlNo). k.0) x.tests.items ≡ flat_map (λ o. tests_of m (deed_of o)) os
 
--- the output was put for a, with the positive terminations of these tests behind it
+-- the output was put for a, with the positive terminations of these tests after it
 abbrev pub replied_with : State → ℕ → Output → List CtlNo → State
 replied_with s a output ks = record s { rows = extended s.rows a (reply_and output ks) }
 

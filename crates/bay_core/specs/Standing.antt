@@ -14,7 +14,7 @@ use Rattle.control_core.specs.Standing.{Stands as ControlsStand}
 use Rattle.report_block.specs.Standing.{BlocksStand}
 use Rattle.bay_core.specs.State.{State}
 
--- the state stands for these points of so many steps
+-- the state stands for these points of n steps
 pub record StandsAt (s : State) (c : Config) (count : ℕ) (past : Past) : Type 0 where
   pub is_config : s.config ≡ c
   pub is_steps : s.steps ≡ count

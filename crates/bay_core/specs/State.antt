@@ -38,7 +38,7 @@ pub record IsBooked (c : Config) (book : Book) : Type 0 where
   pub free : (k : ℕ) → k < length book.sets → (set_at book k).holds ≡ 0
 
 -- the parts fit the configuration, each has an empty DatSet or one that names a data set, and the number of that; the index has the
--- members of their data sets, and the room that entries of 256 members and changes need was made
+-- members of their data sets, and the memory that entries of 256 members and changes need was made
 pub record IsFurnished (c : Config) (stored : List Stored) (book : Book) (parts : List ReportBlock) (w : Watch) (octets : Filled ℕ) (room : ℕ) : Type 0 where
   pub servable : IsServable c
   pub values : AreHeld c stored

@@ -1,4 +1,4 @@
--- What is so of a bay between steps: its parts, its setting groups and its controls fit its configuration, there is room for events, and
+-- What is so of a bay between steps: its parts, its setting groups and its controls fit its configuration, there is capacity for events, and
 -- each block has nothing due before the moment that the bay knows of it.
 use Rattle.std.specs.Prelude.{◌≡◌, ℕ, List, map, Option}
 use Rattle.sv_base.specs.declared.config.Config.{Config}

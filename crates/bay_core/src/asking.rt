@@ -29,7 +29,8 @@ pub(crate) struct Came {
 /// A request came to its reply alone. It takes no memory.
 fn alone(alloc: Global, reply: Reply) -> Came
     ensures reply { result.reply ≡ reply }
-    ensures none { (result.before.items ≡ []) × (result.acts.items ≡ []) × (result.tests.items ≡ []) }
+    ensures none { (result.before.items ≡ []) × (result.acts.items ≡ [])
+        × (result.tests.items ≡ []) }
 {
     Came {
         reply,
@@ -74,7 +75,8 @@ fn members_named(
 }
 
 impl Bay {
-    ghost use Rattle.std.specs.Prelude.{◌≡◌, ◌<◌, ◌^◌, ◌∷◌, [], true, false, nat_le, IfOk, OnOk, OnErr};
+    ghost use Rattle.std.specs.Prelude.{◌≡◌, ◌<◌, ◌^◌, ◌∷◌, [], true, false, nat_le, IfOk, OnOk};
+    ghost use Rattle.std.specs.Prelude.{OnErr};
     ghost use Rattle.bay_model.specs.declared.answer.Output.TheVariants as outputs;
     ghost use Rattle.bay_model.specs.declared.step.Step.TheVariants as steps;
     ghost use Rattle.object_model.specs.Fits.{fits as fits_in};
@@ -84,7 +86,8 @@ impl Bay {
     ghost use Rattle.bay_replies.specs.Asking.{IsReading, IsFitting};
     ghost use Rattle.bay_model.specs.declared.request.Service.TheVariants as services;
     ghost use Rattle.bay_model.specs.Singles.{writes_of};
-    ghost use Rattle.bay_core.specs.Asked.{AreMembersFit, AreWritten, IsAnswered, IsReplied, IsReplyAt, IsKept, node_numbers};
+    ghost use Rattle.bay_core.specs.Asked.{AreMembersFit, AreWritten, IsAnswered, IsReplied};
+    ghost use Rattle.bay_core.specs.Asked.{IsReplyAt, IsKept, node_numbers};
     ghost use Rattle.bay_core.specs.Came.{IsCome, put_after};
     ghost use Rattle.bay_core.specs.Commanded.{AreNoCommands, AreTestsOf, CallsNothing};
     ghost use Rattle.bay_core.specs.Put.{IsOpenAt};
@@ -136,7 +139,8 @@ impl Bay {
         requires number { IsNumber a.0 }
         requires fits { IsFitting self.old.config service.now }
         requires reading { IsReading service.now }
-        ensures answered { IfOk result (λ r. IsAnswered self.old self.new moment a.0 service.now r) }
+        ensures answered { IfOk result
+            (λ r. IsAnswered self.old self.new moment a.0 service.now r) }
         ensures kept { OnOk result (IsKept self.old self.new) }
         ensures refused { OnErr result (self.new ≡ self.old) }
     {
@@ -146,7 +150,7 @@ impl Bay {
         Ok(reply)
     }
 
-    /// Answers a write of variables: room for what comes of it and the errors that commands may have are made, and then time passes and
+    /// Answers a write of variables: memory for what comes of it and the errors that commands may have are made, and then time passes and
     /// each is written.
     fn answer_writes(
         &mut self,
@@ -158,7 +162,8 @@ impl Bay {
         requires number { IsNumber a.0 }
         requires is_open { IsOpenAt self.old a.0 }
         requires fits { IsFitting self.old.config (services.WriteVars writes.now) }
-        ensures came { IfOk result (λ x. IsCome self.old self.new moment a.0 (services.WriteVars writes.now) x) }
+        ensures came { IfOk result (λ x. IsCome self.old self.new moment a.0
+            (services.WriteVars writes.now) x) }
         ensures kept { OnOk result (IsKept self.old self.new) }
         ensures refused { OnErr result (self.new ≡ self.old) }
     {
@@ -169,7 +174,7 @@ impl Bay {
         Ok(wrote(heard))
     }
 
-    /// Answers a write of as many members of a data set as there are values: room for the codes is made, and then time passes and
+    /// Answers a write of as many members of a data set as there are values: memory for the codes is made, and then time passes and
     /// each is written.
     fn answer_members(
         &mut self,
@@ -183,7 +188,8 @@ impl Bay {
         requires is_open { IsOpenAt self.old a.0 }
         requires fit { AreMembersFit self.old.config nodes.now values.now }
         requires plain { AreNoCommands self.old.config nodes.now }
-        ensures written { IfOk result (λ codes. AreWritten self.old self.new moment a.0 (writes_of (node_numbers nodes.now) values.now) codes.items) }
+        ensures written { IfOk result (λ codes. AreWritten self.old self.new moment a.0
+            (writes_of (node_numbers nodes.now) values.now) codes.items) }
         ensures kept { OnOk result (IsKept self.old self.new) }
         ensures refused { OnErr result (self.new ≡ self.old) }
     {
@@ -205,8 +211,10 @@ impl Bay {
     ) -> Result<Reply, AllocError>
         requires number { IsNumber a.0 }
         requires is_open { IsOpenAt self.old a.0 }
-        requires fits { IsFitting self.old.config (services.WriteSet domain.now item.now values.now) }
-        ensures answered { IfOk result (λ r. IsAnswered self.old self.new moment a.0 (services.WriteSet domain.now item.now values.now) r) }
+        requires fits { IsFitting self.old.config
+            (services.WriteSet domain.now item.now values.now) }
+        ensures answered { IfOk result (λ r. IsAnswered self.old self.new moment a.0
+            (services.WriteSet domain.now item.now values.now) r) }
         ensures kept { OnOk result (IsKept self.old self.new) }
         ensures refused { OnErr result (self.new ≡ self.old) }
     {
@@ -288,7 +296,7 @@ impl Bay {
         }
     }
 
-    /// What a request came to waits for its association: the reply with the errors before it, and the terminations of its tests behind
+    /// What a request came to waits for its association: the reply with the errors before it, and the terminations of its tests after
     /// it; gives the acts. It takes no memory.
     fn put_reply(&mut self, a: AssocNo, invoke: u32, came: Came) -> Acts
         requires number { IsNumber a.0 }
@@ -318,7 +326,11 @@ impl Bay {
         requires number { IsNumber a.0 }
         requires fits { fits_in self.old.config (steps.Ask a request.now) ≡ true }
         requires few { self.old.steps < 2 ^ 62 }
-        ensures does { Does self.old self.new (record { moment = moment; actor = actor.0; step = steps.Ask a request.now }) result }
+        ensures does { Does self.old self.new (record {
+          moment = moment;
+          actor = actor.0;
+          step = steps.Ask a request.now;
+        }) result }
         ensures counted { IsCounted self.old self.new result }
     {
         let Some(opener) = self.associations.opener(a) else {

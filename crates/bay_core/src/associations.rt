@@ -46,7 +46,11 @@ impl Bay {
     /// Time passes.
     pub(crate) fn tick(&mut self, moment: Moment, actor: ActorNo) -> Result<Answer, StepFault>
         requires { self.old.steps < 2 ^ 62 }
-        ensures does { Does self.old self.new (record { moment = moment; actor = actor.0; step = steps.Tick }) result }
+        ensures does { Does self.old self.new (record {
+          moment = moment;
+          actor = actor.0;
+          step = steps.Tick;
+        }) result }
         ensures counted { IsCounted self.old self.new result }
         ensures lean { KeepsLean steps.Tick result }
     {
@@ -67,7 +71,11 @@ impl Bay {
     ) -> Result<Answer, StepFault>
         requires number { IsNumber a.0 }
         requires few { self.old.steps < 2 ^ 62 }
-        ensures does { Does self.old self.new (record { moment = moment; actor = actor.0; step = steps.Open a size writer owner }) result }
+        ensures does { Does self.old self.new (record {
+          moment = moment;
+          actor = actor.0;
+          step = steps.Open a size writer owner;
+        }) result }
         ensures counted { IsCounted self.old self.new result }
     {
         if self.associations.is_open(a) {
@@ -97,7 +105,11 @@ impl Bay {
     ) -> Result<Answer, StepFault>
         requires number { IsNumber a.0 }
         requires few { self.old.steps < 2 ^ 62 }
-        ensures does { Does self.old self.new (record { moment = moment; actor = actor.0; step = steps.Lost a }) result }
+        ensures does { Does self.old self.new (record {
+          moment = moment;
+          actor = actor.0;
+          step = steps.Lost a;
+        }) result }
         ensures counted { IsCounted self.old self.new result }
         ensures lean { KeepsLean (steps.Lost a) result }
     {

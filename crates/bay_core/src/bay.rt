@@ -34,7 +34,7 @@ pub struct Bay {
     pub(crate) changes: Vec<Change>,
     pub(crate) events: EventRoom,
     pub(crate) octets: Fixed,
-    /// A report that is no longer needed, in whose memory the next one is written; of no account either, as is the room that is kept
+    /// A report that is no longer needed, in whose memory the next one is written; of no account either, as is the memory that is kept
     /// for the report of a moment at which something is due.
     pub(crate) spare: Option<Report>,
     pub(crate) rooms: Option<Rooms>,
@@ -107,7 +107,8 @@ impl Bay {
         requires { IsNumber a.0 }
         ensures row { result ≡ is_some (row_of self.now.rows a.0).ends }
         // So it is in the definitions, after every history that the bay stands for.
-        ensures defined { (c : Config) (h : History) → StandsFor self.now c h → result ≡ is_some (ends a.0 (points (configured_model c) h)) }
+        ensures defined { (c : Config) (h : History) → StandsFor self.now c h
+            → result ≡ is_some (ends a.0 (points (configured_model c) h)) }
     {
         self.associations.is_open(a)
     }

@@ -29,7 +29,8 @@ impl Bay {
     ghost use Rattle.bay_queues.specs.Heard.{heard_with};
     ghost use Rattle.bay_queues.specs.Queued.{IsQueued};
     ghost use Rattle.bay_core.specs.Put.{IsOpenAt};
-    ghost use Rattle.bay_core.specs.Commanded.{after_block, after_call, after_end, blame_at, blame_to, AreTestsOf, IsSingle};
+    ghost use Rattle.bay_core.specs.Commanded.{after_block, after_call, after_end, blame_at};
+    ghost use Rattle.bay_core.specs.Commanded.{blame_to, AreTestsOf, IsSingle};
     ghost use Rattle.bay_histories.specs.Turns.{KeepsLean};
     ghost use Rattle.bay_core.specs.Turns.{Does, IsCounted};
 
@@ -70,7 +71,8 @@ impl Bay {
         writes: &[Write],
     ) -> Result<Vec<Option<ApplError>>, AllocError>
         requires { AreFit self.now.config writes.now }
-        ensures { IfOk result (λ v. v.items ≡ map (λ (w : WriteValue). blame_to self.now.config w.target w.value) writes.now) }
+        ensures { IfOk result (λ v. v.items
+            ≡ map (λ (w : WriteValue). blame_to self.now.config w.target w.value) writes.now) }
     {
         let mut blames = Vec::with_capacity(alloc, writes.len())?;
         for write in writes {
@@ -91,11 +93,14 @@ impl Bay {
     )
         requires number { IsNumber a.0 }
         requires control { control.0 < length self.old.config.controls }
-        requires blame { blame ≡ blame_in (map control_defined self.old.config.controls) control.0 call value.now }
+        requires blame { blame ≡ blame_in
+            (map control_defined self.old.config.controls) control.0 call value.now }
         requires room { length heard.old.codes < heard.old.room }
         ensures state { self.new ≡ after_call a.0 control.0 call value.now self.old }
-        ensures heard { heard.new ≡ heard_with (enhanced_in self.old.controls) (outcome_at self.old.controls a.0 control.0 call value.now) heard.old }
-        ensures tests { AreTestsOf self.old a.0 heard.old.tests → AreTestsOf self.new a.0 heard.new.tests }
+        ensures heard { heard.new ≡ heard_with (enhanced_in self.old.controls)
+            (outcome_at self.old.controls a.0 control.0 call value.now) heard.old }
+        ensures tests { AreTestsOf self.old a.0 heard.old.tests
+            → AreTestsOf self.new a.0 heard.new.tests }
     {
         self.associations
             .call(a, control, call, value, blame, heard);
@@ -116,7 +121,8 @@ impl Bay {
         requires sound { is_sound value.now ≡ true }
         requires blame { blame ≡ blame_at self.old.config node.0 value.now }
         requires room { length heard.old.codes < heard.old.room }
-        ensures single { IsSingle self.old self.new a.0 heard.old heard.new (λ m past. outcome_of m a.0 (writes node.0 value.now) past) }
+        ensures single { IsSingle self.old self.new a.0 heard.old heard.new
+            (λ m past. outcome_of m a.0 (writes node.0 value.now) past) }
     {
         match self.model.role_of(node) {
             What::Calling(control, call) => {
@@ -134,7 +140,8 @@ impl Bay {
         requires { control.0 < length self.old.config.controls }
         ensures state { self.new ≡ after_end control good self.old }
         ensures queued { IsQueued self.old.rows self.old.controls }
-        ensures number { (a : ℕ) → due (control_at self.old.controls.controls control.0).execution ≡ Some a → IsNumber a }
+        ensures number { (a : ℕ) → due (control_at self.old.controls.controls control.0).execution
+            ≡ Some a → IsNumber a }
     {
         self.associations.done(control, good);
     }
@@ -157,7 +164,11 @@ impl Bay {
     ) -> Result<Answer, StepFault>
         requires control { control.0 < length self.old.config.controls }
         requires few { self.old.steps < 2 ^ 62 }
-        ensures does { Does self.old self.new (record { moment = moment; actor = actor.0; step = steps.Done control good }) result }
+        ensures does { Does self.old self.new (record {
+          moment = moment;
+          actor = actor.0;
+          step = steps.Done control good;
+        }) result }
         ensures counted { IsCounted self.old self.new result }
         ensures lean { KeepsLean (steps.Done control good) result }
     {
@@ -177,7 +188,11 @@ impl Bay {
     ) -> Result<Answer, StepFault>
         requires control { control.0 < length self.old.config.controls }
         requires few { self.old.steps < 2 ^ 62 }
-        ensures does { Does self.old self.new (record { moment = moment; actor = actor.0; step = steps.Block control on }) result }
+        ensures does { Does self.old self.new (record {
+          moment = moment;
+          actor = actor.0;
+          step = steps.Block control on;
+        }) result }
         ensures counted { IsCounted self.old self.new result }
         ensures lean { KeepsLean (steps.Block control on) result }
     {

@@ -42,10 +42,11 @@ impl Bay {
     ghost use Rattle.bay_core.specs.Asked.{IsKept, IsReplied};
     ghost use Rattle.bay_core.specs.Deleted.{IsNewSet};
 
-    /// Puts a data set into the book, with room for its members in the index of every block, so that a write of DatSet needs none.
+    /// Puts a data set into the book, with capacity for its members in the index of every block, so that a write of DatSet needs none.
     fn define(&mut self, definition: Definition) -> Result<(), AllocError>
         requires { IsNewSet self.old.config self.old.book definition }
-        ensures defined { OnOk result (self.new ≡ record self.old { book = with_set definition self.old.book }) }
+        ensures defined { OnOk result
+            (self.new ≡ record self.old { book = with_set definition self.old.book }) }
         ensures kept { OnErr result (self.new ≡ self.old) }
     {
         let Ok(()) = self
@@ -59,7 +60,7 @@ impl Bay {
         Ok(())
     }
 
-    /// Answers a definition: the data set and all room that it needs are made, and then time passes.
+    /// Answers a definition: the data set and all the memory that it needs are made, and then time passes.
     pub(crate) fn answer_definition(
         &mut self,
         alloc: Global,
@@ -70,8 +71,10 @@ impl Bay {
         members: &Targets,
     ) -> Result<Reply, AllocError>
         requires number { IsNumber a.0 }
-        requires fits { IsFitting self.old.config (services.Define domain.now item.now members.now) }
-        ensures answered { IfOk result (λ r. IsReplied self.old self.new moment a.0 (services.Define domain.now item.now members.now) r) }
+        requires fits { IsFitting self.old.config
+            (services.Define domain.now item.now members.now) }
+        ensures answered { IfOk result (λ r. IsReplied self.old self.new moment a.0
+            (services.Define domain.now item.now members.now) r) }
         ensures kept { OnOk result (IsKept self.old self.new) }
         ensures refused { OnErr result (self.new ≡ self.old) }
     {

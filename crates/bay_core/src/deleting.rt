@@ -61,7 +61,8 @@ impl Bay {
     ghost use Rattle.bay_model.specs.declared.request.Service.TheVariants as services;
     ghost use Rattle.assoc_table.specs.Tables.{IsNumber};
     ghost use Rattle.bay_core.specs.Asked.{IsKept, IsReplied};
-    ghost use Rattle.bay_core.specs.Deleted.{after_deletion, after_deletions, deleted_in, deletion_at, matched_in};
+    ghost use Rattle.bay_core.specs.Deleted.{after_deletion, after_deletions, deleted_in};
+    ghost use Rattle.bay_core.specs.Deleted.{deletion_at, matched_in};
 
     /// The number of the data set of this name, where a client defined it and no block reports it, else the first cause why it isn't
     /// deleted.
@@ -114,7 +115,8 @@ impl Bay {
         names: &SetNames,
     ) -> Result<Reply, AllocError>
         requires number { IsNumber a.0 }
-        ensures answered { IfOk result (λ r. IsReplied self.old self.new moment a.0 (services.Delete scope names.now) r) }
+        ensures answered { IfOk result (λ r. IsReplied self.old self.new moment a.0
+            (services.Delete scope names.now) r) }
         ensures kept { OnOk result (IsKept self.old self.new) }
         ensures refused { OnErr result (self.new ≡ self.old) }
     {

@@ -25,10 +25,12 @@ fn begun(made: Made) -> Bay
     requires values { made.values ≡ opened made.model }
     requires groups { made.groups ≡ grouped made.model (domains_of made.model) }
     requires sets { made.sets ≡ booked (set_rows made.model) }
-    requires parts { map seen made.parts.items ≡ map (part_defined (booked (set_rows made.model))) made.model.blocks }
+    requires parts { map seen made.parts.items
+        ≡ map (part_defined (booked (set_rows made.model))) made.model.blocks }
     requires dues { made.rooms.dues ≡ replicate (length made.parts.items) (Some 0) }
     requires associations { made.rooms.associations ≡ queues_opened made.model }
-    requires watch { IsWatching (node_rows made.model) made.sets (length made.values) made.parts.items made.watch }
+    requires watch { IsWatching (node_rows made.model) made.sets
+        (length made.values) made.parts.items made.watch }
     requires events { HasRoom 256 made.rooms.events }
     requires octets { made.rooms.octets.room ≡ 129024 }
     requires changes { length made.values ≤ vec_capacity made.rooms.changes }
@@ -67,7 +69,7 @@ impl Bay {
     ghost use Rattle.bay_config.specs.Servable.{IsServable};
     ghost use Rattle.bay_core.specs.Standing.{StandsFor};
 
-    /// A bay of a model, with no step made. It takes the room that notes, entries and changes need.
+    /// A bay of a model, with no step made. It takes the memory that notes, entries and changes need.
     pub fn open(alloc: Global, model: Model) -> Result<Bay, AllocError>
         requires { IsServable model }
         ensures config { IfOk result (λ b. b.config ≡ model) }

@@ -9,7 +9,8 @@ ghost use Rattle.bay_model.specs.Configured.{control_defined};
 ghost use Rattle.setting_groups.specs.Opened.{IsGrouped};
 ghost use Rattle.bay_queues.specs.Queued.{configs};
 ghost use Rattle.bay_replies.specs.Reading.{selecting_in, IsTarget};
-ghost use Rattle.bay_core.specs.Turned.{after_turn, after_turns, empty_text, in_turns, reply_of, with_turn};
+ghost use Rattle.bay_core.specs.Turned.{after_turn, after_turns, empty_text, in_turns, reply_of};
+ghost use Rattle.bay_core.specs.Turned.{with_turn};
 
 use crate::bay::Bay;
 use bay_model::{Asked, Reply, Results, Target, Targets, service_errors};
@@ -73,8 +74,12 @@ fn read_in_turn(
     requires there { IsTarget model.now target.now }
     requires grouped { IsGrouped model.now }
     requires controls { configs queues.old.table ≡ map control_defined model.now.controls }
-    ensures controls { queues.new ≡ record queues.old { table = after_turn a.0 (selecting_in model.now target.now) queues.old.table } }
-    ensures result { results.new.items ≡ with_turn place (selecting_in model.now target.now) queues.old.table results.old.items }
+    ensures controls { queues.new ≡ record queues.old {
+      table = after_turn a.0
+          (selecting_in model.now target.now) queues.old.table;
+    } }
+    ensures result { results.new.items ≡ with_turn place
+        (selecting_in model.now target.now) queues.old.table results.old.items }
 {
     let Some(control) = selected_by(model, target) else {
         return;
@@ -84,7 +89,7 @@ fn read_in_turn(
     }
 }
 
-/// An association reads variables in their turn; results behind a cut aren't there.
+/// An association reads variables in their turn; results after a cut aren't there.
 fn read_all(
     alloc: Global,
     model: &Model,
@@ -96,8 +101,10 @@ fn read_all(
     requires there { All (IsTarget model.now) targets.now }
     requires grouped { IsGrouped model.now }
     requires controls { configs queues.old.table ≡ map control_defined model.now.controls }
-    ensures controls { queues.new ≡ record queues.old { table = after_turns a.0 model.now targets.now queues.old.table } }
-    ensures results { results.new.items ≡ in_turns a.0 model.now targets.now queues.old.table results.old.items }
+    ensures controls { queues.new
+        ≡ record queues.old { table = after_turns a.0 model.now targets.now queues.old.table } }
+    ensures results { results.new.items
+        ≡ in_turns a.0 model.now targets.now queues.old.table results.old.items }
 {
     for place in 0..targets.len() {
         read_in_turn(alloc, model, queues, a, &targets[place], results, place);
@@ -114,8 +121,13 @@ impl Bay {
     /// The variables of a request are read in their turn, where the values were made before.
     fn turn(&mut self, alloc: Global, a: AssocNo, targets: &Targets, read: &mut Read)
         requires { All (IsTarget self.old.config) targets.now }
-        ensures controls { self.new ≡ record self.old { controls = after_turns a.0 self.old.config targets.now self.old.controls } }
-        ensures results { read.new.results.items ≡ in_turns a.0 self.old.config targets.now self.old.controls read.old.results.items }
+        ensures controls { self.new
+            ≡ record self.old {
+              controls = after_turns a.0 self.old.config targets.now
+                  self.old.controls;
+            } }
+        ensures results { read.new.results.items
+            ≡ in_turns a.0 self.old.config targets.now self.old.controls read.old.results.items }
         ensures cut { read.new.is_cut ≡ read.old.is_cut }
     {
         read_all(
@@ -139,7 +151,8 @@ impl Bay {
     ) -> Result<Reply, AllocError>
         requires number { IsNumber a.0 }
         requires fits { IsFitting self.old.config (services.Read targets.now spec) }
-        ensures answered { IfOk result (λ r. IsAnswered self.old self.new moment a.0 (services.Read targets.now spec) r) }
+        ensures answered { IfOk result (λ r. IsAnswered self.old self.new moment a.0
+            (services.Read targets.now spec) r) }
         ensures kept { OnOk result (IsKept self.old self.new) }
         ensures refused { OnErr result (self.new ≡ self.old) }
     {

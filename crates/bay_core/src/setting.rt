@@ -22,7 +22,11 @@ impl Bay {
     ) -> Result<Answer, StepFault>
         requires fits { fits_in self.old.config (steps.Value sets.now) ≡ true }
         requires few { self.old.steps < 2 ^ 62 }
-        ensures does { Does self.old self.new (record { moment = moment; actor = actor.0; step = steps.Value sets.now }) result }
+        ensures does { Does self.old self.new (record {
+          moment = moment;
+          actor = actor.0;
+          step = steps.Value sets.now;
+        }) result }
         ensures counted { IsCounted self.old self.new result }
         ensures lean { KeepsLean (steps.Value sets.now) result }
     {

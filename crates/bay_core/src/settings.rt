@@ -21,7 +21,8 @@ impl Bay {
         requires sound { is_sound value.now ≡ true }
         ensures kept { IsKept self.old self.new }
         ensures controls { self.new.controls ≡ self.old.controls }
-        ensures written { IsWrite self.old self.new (λ m past. write_attribute m a.0 (copies_from self.old.stored self.old.groups + place) value.now
+        ensures written { IsWrite self.old self.new (λ m past. write_attribute m a.0
+            (copies_from self.old.stored self.old.groups + place) value.now
             (attr_of m (copies_from self.old.stored self.old.groups + place)).access past) result }
     {
         self.groups.write_se(a, place, value)
@@ -40,7 +41,8 @@ impl Bay {
         requires grouped { 0 < (groups_of (configured_model self.old.config) domain).count }
         ensures kept { IsKept self.old self.new }
         ensures controls { self.new.controls ≡ self.old.controls }
-        ensures written { IsWrite self.old self.new (λ m past. write_part m a.0 domain part value.now past) result }
+        ensures written { IsWrite self.old self.new
+            (λ m past. write_part m a.0 domain part value.now past) result }
     {
         if !self.groups.write(domain, a, part, value, self.latest)? {
             return Ok(());

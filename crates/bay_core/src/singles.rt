@@ -1,10 +1,12 @@
 //! The single writes of a request, each judged after those before it (ISO 9506-2, Write; IEC 61850-7-2, SetDataValues and
 //! SetBRCBValues).
 
-ghost use Rattle.std.specs.Prelude.{◌≡◌, ◌≤◌, ◌<◌, ◌++◌, ◌∷◌, [], vec_len, vec_capacity, if◌then◌else◌};
+ghost use Rattle.std.specs.Prelude.{◌≡◌, ◌≤◌, ◌<◌, ◌++◌, ◌∷◌, [], vec_len, vec_capacity};
+ghost use Rattle.std.specs.Prelude.{if◌then◌else◌};
 ghost use Rattle.bay_core.specs.Asked.{set_code};
 ghost use Rattle.sv_base.specs.Kinds.{is_kind, text};
-ghost use Rattle.bay_model.specs.declared.access_errors.TheConstants.{OBJECT_ACCESS_DENIED, TYPE_INCONSISTENT};
+ghost use Rattle.bay_model.specs.declared.access_errors.TheConstants.{OBJECT_ACCESS_DENIED};
+ghost use Rattle.bay_model.specs.declared.access_errors.TheConstants.{TYPE_INCONSISTENT};
 
 use crate::bay::Bay;
 use bay_model::{ApplError, Target, Write, access_errors};
@@ -25,7 +27,7 @@ fn refusal(fault: SetFault) -> u8
     }
 }
 
-/// Adds a code, in room that was made before.
+/// Adds a code, in memory that was allocated before.
 fn add_code(codes: &mut Vec<Result<(), u8>>, code: Result<(), u8>)
     requires room { vec_len codes.old < vec_capacity codes.old }
     ensures added { codes.new.items ≡ codes.old.items ++ code ∷ [] }
@@ -34,9 +36,10 @@ fn add_code(codes: &mut Vec<Result<(), u8>>, code: Result<(), u8>)
     let _ = codes.push(code);
 }
 
-/// The code of a write of SBO (ISO 9506-2, DataAccessError): object-access-denied behind type-inconsistent.
+/// The code of a write of SBO (ISO 9506-2, DataAccessError): object-access-denied after type-inconsistent.
 fn selecting_code(value: &Value) -> u8
-    ensures { result ≡ (if is_kind (text 129) value.now then OBJECT_ACCESS_DENIED else TYPE_INCONSISTENT) }
+    ensures { result ≡ (if is_kind (text 129) value.now then OBJECT_ACCESS_DENIED
+        else TYPE_INCONSISTENT) }
 {
     if matches!(value, Value::Text(_)) {
         access_errors::OBJECT_ACCESS_DENIED
@@ -57,9 +60,11 @@ impl Bay {
     ghost use Rattle.assoc_table.specs.Tables.{IsNumber};
     ghost use Rattle.bay_replies.specs.Given.{copies_from};
     ghost use Rattle.bay_queues.specs.Heard.{unheard};
-    ghost use Rattle.bay_core.specs.Asked.{AreFit, AreMembersFit, AreWrites, IsFit, IsKept, IsWrite, node_numbers};
+    ghost use Rattle.bay_core.specs.Asked.{AreFit, AreMembersFit, AreWrites, IsFit, IsKept};
+    ghost use Rattle.bay_core.specs.Asked.{IsWrite, node_numbers};
     ghost use Rattle.bay_core.specs.Put.{IsOpenAt};
-    ghost use Rattle.bay_core.specs.Commanded.{blame_to, AreNoCommands, AreSingles, IsNoCommand, IsSingle};
+    ghost use Rattle.bay_core.specs.Commanded.{blame_to, AreNoCommands, AreSingles, IsNoCommand};
+    ghost use Rattle.bay_core.specs.Commanded.{IsSingle};
 
     /// A client writes an attribute of a line or of a control, at the moment that time has come to, and each block takes in its event. It
     /// takes no memory.
@@ -68,7 +73,9 @@ impl Bay {
         requires sound { is_sound value.now ≡ true }
         ensures kept { IsKept self.old self.new }
         ensures controls { self.new.controls ≡ self.old.controls }
-        ensures written { (a : ℕ) → IsWrite self.old self.new (λ m past. write_attribute m a attr.0 value.now (attr_of m attr.0).access past) result }
+        ensures written { (a : ℕ)
+            → IsWrite self.old self.new (λ m past. write_attribute m a attr.0 value.now
+            (attr_of m attr.0).access past) result }
     {
         self.changes.clear();
         if let Err(fault) = self
@@ -97,13 +104,15 @@ impl Bay {
     }
 
     /// An association writes an attribute, at the moment that time has come to: one of a line or of a control, or an edit copy, which
-    /// stand behind these. It takes no memory.
+    /// stand after these. It takes no memory.
     fn write_attribute(&mut self, a: AssocNo, attr: AttrId, value: &Value) -> Result<(), u8>
         requires there { attr.0 < length self.old.stored }
         requires sound { is_sound value.now ≡ true }
         ensures kept { IsKept self.old self.new }
         ensures controls { self.new.controls ≡ self.old.controls }
-        ensures written { IsWrite self.old self.new (λ m past. write_attribute m a.0 attr.0 value.now (attr_of m attr.0).access past) result }
+        ensures written { IsWrite self.old self.new
+            (λ m past. write_attribute m a.0 attr.0 value.now
+            (attr_of m attr.0).access past) result }
     {
         let number = attr.0 as usize;
         let copies = self.values.store().len().saturating_sub(self.groups.len());
@@ -123,7 +132,8 @@ impl Bay {
         requires plain { IsNoCommand (node_of (configured_model self.old.config) node.0).role }
         ensures kept { IsKept self.old self.new }
         ensures controls { self.new.controls ≡ self.old.controls }
-        ensures written { IsWrite self.old self.new (λ m past. write_node m a.0 node.0 value.now past) result }
+        ensures written { IsWrite self.old self.new
+            (λ m past. write_node m a.0 node.0 value.now past) result }
     {
         match self.model.role_of(node) {
             What::Attribute(attr) => self.write_attribute(a, AttrId(attr), value),
@@ -151,7 +161,8 @@ impl Bay {
         requires fit { IsFit self.old.config target.now value.now }
         requires blame { blame ≡ blame_to self.old.config target.now value.now }
         requires room { length heard.old.codes < heard.old.room }
-        ensures single { IsSingle self.old self.new a.0 heard.old heard.new (λ m past. outcome_of m a.0 (write_to target.now value.now) past) }
+        ensures single { IsSingle self.old self.new a.0 heard.old heard.new
+            (λ m past. outcome_of m a.0 (write_to target.now value.now) past) }
     {
         match target {
             Target::Node(node, _) => self.write_in_turn(a, *node, value, blame, heard),
@@ -171,9 +182,11 @@ impl Bay {
         requires number { IsNumber a.0 }
         requires is_open { IsOpenAt self.old a.0 }
         requires fit { AreFit self.old.config writes.now }
-        requires blames { blames.old.items ≡ map (λ (w : WriteValue). blame_to self.old.config w.target w.value) writes.now }
+        requires blames { blames.old.items
+            ≡ map (λ (w : WriteValue). blame_to self.old.config w.target w.value) writes.now }
         requires heard { heard.old ≡ unheard (length writes.now) }
-        ensures singles { AreSingles self.old self.new a.0 (map write_of writes.now) heard.old heard.new }
+        ensures singles { AreSingles self.old self.new a.0
+            (map write_of writes.now) heard.old heard.new }
     {
         for i in 0..writes.len() {
             let blame = blames[i].take();
@@ -181,7 +194,7 @@ impl Bay {
         }
     }
 
-    /// An association writes the members of a data set in their order; the codes are added to `codes`, in room that was made before.
+    /// An association writes the members of a data set in their order; the codes are added to `codes`, in memory that was allocated before.
     pub(crate) fn write_members(
         &mut self,
         a: AssocNo,
@@ -196,7 +209,8 @@ impl Bay {
         requires empty { codes.old.items ≡ [] }
         requires room { length nodes.now ≤ vec_capacity codes.old }
         ensures kept { IsKept self.old self.new }
-        ensures written { AreWrites self.old self.new a.0 (writes_of (node_numbers nodes.now) values.now) codes.new.items }
+        ensures written { AreWrites self.old self.new a.0
+            (writes_of (node_numbers nodes.now) values.now) codes.new.items }
     {
         for i in 0..nodes.len() {
             let code = self.write_node(a, nodes[i], &values[i]);

@@ -17,7 +17,7 @@ impl Bay {
     /// The step fits the model, and there were fewer than 2^62. Refuses, in this order, to open an association that is open
     /// (IsOpen); a request, a write or a loss of one that isn't open (NotOpen); a request or a write by another than the opener,
     /// a take by another than the writer of an open one, and a loss by neither (NotYours); a request where 16 replies wait
-    /// (QueueFull). A refused step changes nothing and isn't counted, for want of memory too.
+    /// (QueueFull). A refused step changes nothing and isn't counted, when out of memory too.
     pub fn step(
         &mut self,
         alloc: Global,
@@ -29,9 +29,13 @@ impl Bay {
         requires few { self.old.steps < 2 ^ 62 }
         // The answer is the one that the definitions give after every history that the bay stands for, and then it stands
         // for the longer one; a refusal is the one that they name, and then the bay is as it was.
-        ensures does { Does self.old self.new (record { moment = moment; actor = actor.0; step = step.now }) result }
+        ensures does { Does self.old self.new (record {
+          moment = moment;
+          actor = actor.0;
+          step = step.now;
+        }) result }
         ensures counted { IsCounted self.old self.new result }
-        // Of these steps want of memory is never answered.
+        // Of these steps out of memory is never answered.
         ensures lean { KeepsLean step.now result }
     {
         match step {

@@ -33,7 +33,11 @@ impl Bay {
     ) -> Result<Answer, StepFault>
         requires number { IsNumber a.0 }
         requires few { self.old.steps < 2 ^ 62 }
-        ensures does { Does self.old self.new (record { moment = moment; actor = actor.0; step = steps.Take a }) result }
+        ensures does { Does self.old self.new (record {
+          moment = moment;
+          actor = actor.0;
+          step = steps.Take a;
+        }) result }
         ensures counted { IsCounted self.old self.new result }
     {
         let Some(writer) = self.associations.writer(a) else {
@@ -55,7 +59,8 @@ impl Bay {
     fn give(&mut self, moment: Moment, output: Output) -> Answer
         requires { self.old.steps < 2 ^ 62 }
         ensures answer { result ≡ Taken output }
-        ensures state { self.new ≡ record (at_arrival moment self.old) { steps = suc self.old.steps } }
+        ensures state { self.new ≡ record
+            (at_arrival moment self.old) { steps = suc self.old.steps } }
     {
         self.arrive(moment);
         self.count();
@@ -72,9 +77,14 @@ impl Bay {
     ) -> Result<Answer, StepFault>
         requires number { IsNumber a.0 }
         requires few { self.old.steps < 2 ^ 62 }
-        requires writer { option_map (λ (e : Ends). e.writer) (row_of self.old.rows a.0).ends ≡ Some actor }
+        requires writer { option_map (λ (e : Ends). e.writer)
+            (row_of self.old.rows a.0).ends ≡ Some actor }
         requires empty { (row_of self.old.rows a.0).waiting ≡ [] }
-        ensures does { Does self.old self.new (record { moment = moment; actor = actor.0; step = steps.Take a }) result }
+        ensures does { Does self.old self.new (record {
+          moment = moment;
+          actor = actor.0;
+          step = steps.Take a;
+        }) result }
         ensures counted { IsCounted self.old self.new result }
     {
         if self.dues.have_come(self.latest.later(moment)) {
@@ -94,13 +104,18 @@ impl Bay {
     ) -> Result<Answer, StepFault>
         requires number { IsNumber a.0 }
         requires few { self.old.steps < 2 ^ 62 }
-        requires writer { option_map (λ (e : Ends). e.writer) (row_of self.old.rows a.0).ends ≡ Some actor }
+        requires writer { option_map (λ (e : Ends). e.writer)
+            (row_of self.old.rows a.0).ends ≡ Some actor }
         requires empty { (row_of self.old.rows a.0).waiting ≡ [] }
         requires quiet { at_arrival moment self.old ≡ record self.old {
           latest = max self.old.latest moment;
           controls = at_moment (max self.old.latest moment) self.old.controls;
         } }
-        ensures does { Does self.old self.new (record { moment = moment; actor = actor.0; step = steps.Take a }) result }
+        ensures does { Does self.old self.new (record {
+          moment = moment;
+          actor = actor.0;
+          step = steps.Take a;
+        }) result }
         ensures counted { IsCounted self.old self.new result }
     {
         let Some(offer) = first_offer(&self.parts, a) else {
@@ -123,10 +138,11 @@ impl Bay {
         Ok(Answer::Taken(Output::Report(report)))
     }
 
-    /// Room for a report of the largest sizes, in the memory that the bay keeps for one; only what that lacks is taken.
+    /// Memory for a report of the largest sizes, in the memory that the bay keeps for one; only what that lacks is taken.
     fn blank(&mut self, alloc: Global) -> Result<Blank, AllocError>
         ensures state { self.new ≡ self.old }
-        ensures texts { IfOk result (λ (b : BlankValue). All (AreShortTexts b.texts) self.old.parts) }
+        ensures texts { IfOk result
+            (λ (b : BlankValue). All (AreShortTexts b.texts) self.old.parts) }
         ensures members { IfOk result (λ (b : BlankValue). b.members ≡ 256) }
     {
         let rooms = self.rooms.take().unwrap_or_else(|| Rooms::none(alloc));
@@ -144,8 +160,8 @@ impl Bay {
         self.rooms = Some(rooms);
     }
 
-    /// The writer takes at a moment at which a block may have something due: the room for a report of the largest sizes is made before
-    /// the step; then time passes, and the report is put into that room. What is left of it the bay keeps.
+    /// The writer takes at a moment at which a block may have something due: the memory for a report of the largest sizes is made before
+    /// the step; then time passes, and the report is put into that memory. What is left of it the bay keeps.
     fn take_due(
         &mut self,
         alloc: Global,
@@ -155,9 +171,14 @@ impl Bay {
     ) -> Result<Answer, StepFault>
         requires number { IsNumber a.0 }
         requires few { self.old.steps < 2 ^ 62 }
-        requires writer { option_map (λ (e : Ends). e.writer) (row_of self.old.rows a.0).ends ≡ Some actor }
+        requires writer { option_map (λ (e : Ends). e.writer)
+            (row_of self.old.rows a.0).ends ≡ Some actor }
         requires empty { (row_of self.old.rows a.0).waiting ≡ [] }
-        ensures does { Does self.old self.new (record { moment = moment; actor = actor.0; step = steps.Take a }) result }
+        ensures does { Does self.old self.new (record {
+          moment = moment;
+          actor = actor.0;
+          step = steps.Take a;
+        }) result }
         ensures counted { IsCounted self.old self.new result }
     {
         let Ok(blank) = self.blank(alloc) else {

@@ -17,7 +17,8 @@ impl Bay {
     pub(crate) fn arrive(&mut self, moment: Moment)
         ensures state { self.new ≡ at_arrival moment self.old }
         // A state that stands for points stands for them and the arrival of the next one.
-        ensures stands { (c : Config) (n : ℕ) (past : Past) → StandsAt self.old c n past → StandsAt self.new c n (arrival n moment ∷ past) }
+        ensures stands { (c : Config) (n : ℕ) (past : Past) → StandsAt self.old c n past
+            → StandsAt self.new c n (arrival n moment ∷ past) }
     {
         let now = self.latest.later(moment);
         let source = Source {

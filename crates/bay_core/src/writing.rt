@@ -60,8 +60,10 @@ impl Bay {
         ensures kept { (self.new.config ≡ self.old.config) × (self.new.steps ≡ self.old.steps) }
         ensures answer { (part : ReportBlockValue) → slice_get self.old.parts b.0 ≡ Some part
             → result ≡ without_effect (answer_at a comp value.now part self.old) }
-        ensures written { (part : ReportBlockValue) → slice_get self.old.parts b.0 ≡ Some part → self.new ≡ written_at a b.0 comp value.now part self.old }
-        ensures general { (part : ReportBlockValue) → slice_get self.old.parts b.0 ≡ Some part → AreGeneral a b.0 comp value.now part self.old }
+        ensures written { (part : ReportBlockValue) → slice_get self.old.parts b.0 ≡ Some part
+            → self.new ≡ written_at a b.0 comp value.now part self.old }
+        ensures general { (part : ReportBlockValue) → slice_get self.old.parts b.0 ≡ Some part
+            → AreGeneral a b.0 comp value.now part self.old }
     {
         let written = Written {
             by: a,
@@ -99,7 +101,11 @@ impl Bay {
         requires number { IsNumber a.0 }
         requires block { b.0 < length self.old.config.blocks }
         requires few { self.old.steps < 2 ^ 62 }
-        ensures does { Does self.old self.new (record { moment = moment; actor = actor.0; step = steps.Write a b comp value.now }) result }
+        ensures does { Does self.old self.new (record {
+          moment = moment;
+          actor = actor.0;
+          step = steps.Write a b comp value.now;
+        }) result }
         ensures counted { IsCounted self.old self.new result }
         ensures lean { KeepsLean (steps.Write a b comp value.now) result }
     {

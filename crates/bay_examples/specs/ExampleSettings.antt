@@ -1,5 +1,5 @@
 -- The example bay with two setting groups of one setting, of which the first is active (IEC 61850-7-2, SGCB). The nodes of
--- the block and of the setting stand behind the others; the structures above them are those of the example without them.
+-- the block and of the setting stand after the others; the structures above them are those of the example without them.
 use Rattle.std.specs.Prelude.{ℕ, pos, List, [], ◌∷◌, ◌++◌, false, codes}
 use Rattle.sv_base.specs.declared.value.Value.TheVariants as kinds
 use Rattle.bay_model.specs.Model as model

@@ -55,7 +55,7 @@ disable a = write a comps.RptEna (kinds.Bool false)
 abbrev pub resume_at : ℕ → ℕ → Turn
 resume_at a n = write a comps.EntryID (kinds.Octets (to_be_bytes w64 n))
 
--- ResvTms of so many seconds
+-- ResvTms of n seconds
 abbrev pub reserve : ℕ → ℕ → Turn
 reserve a seconds = write a comps.ResvTms (kinds.Int (pos seconds))
 

@@ -27,7 +27,7 @@ NegativeTermination = Answered example_control (open_direct 1 ∷ select_with 1 
     (operate_with 1 3 1 false ∷ take 1 ∷ done false ∷ take 1 ∷ operate_with 1 4 1 false ∷ take 1 ∷ [])
     (Asked [] ∷ barred oper 3 1 12 ∷ Went ∷ ended_badly 1 ∷ Asked [] ∷ barred oper 4 1 18 ∷ [])
 
--- A test operate is no act, and its termination comes at once, behind its own reply; a Done does nothing to it.
+-- A test operate is no act, and its termination comes at once, after its own reply; a Done does nothing to it.
 abbrev pub TestOperate : Type 0
 TestOperate = Answered example_control (open_direct 1 ∷ select_with 1 1 1 true ∷ take 1 ∷ [])
     (operate_with 1 2 1 true ∷ done false ∷ take 1 ∷ take 1 ∷ take 1 ∷ [])

@@ -16,7 +16,7 @@ use Rattle.bay_examples.specs.ExampleCommands.{block, operate_with, barred, oper
 abbrev pub sbo_node : Node
 sbo_node = record { domain = domain; item = codes "CSWI1$CO$Pos$SBO"; role = selecting 0; tree = leaf withheld; attrs = []; allowed = false }
 
--- the example with a control of a ctlModel and an sboClass; SBO stands behind the other nodes, as 67
+-- the example with a control of a ctlModel and an sboClass; SBO stands after the other nodes, as 67
 abbrev pub controlled : (ctl_model sbo_class : ℕ) → Model
 controlled ctl_model sbo_class = record (example 200) {
   nodes = nodes ++ (control_nodes ++ sbo_node ∷ []);

@@ -1,20 +1,37 @@
 //! Worked histories over the example bay, each with what its steps are answered, and worked trees of names. A slip in a definition is refused here.
 
-ghost use Rattle.bay_examples.specs.WorkedNames.{ExampleNamed, FirstNamed, GeneratedNamed, AttributesNumbered, MembersAllowed, TypesNamed};
-ghost use Rattle.bay_examples.specs.WorkedReports.{OneValue, UpdateFlag, TriggerBits, IntegrityPeriod, Interrogation, MomentBelow};
-ghost use Rattle.bay_examples.specs.WorkedBreaks.{TwoMembersInOneWindow, TwoWindows, RepeatedMember, PurgeClosesEntry, InterrogationClosesEntry};
+ghost use Rattle.bay_examples.specs.WorkedNames.{ExampleNamed, FirstNamed, GeneratedNamed};
+ghost use Rattle.bay_examples.specs.WorkedNames.{AttributesNumbered, MembersAllowed, TypesNamed};
+ghost use Rattle.bay_examples.specs.WorkedReports.{OneValue, UpdateFlag, TriggerBits};
+ghost use Rattle.bay_examples.specs.WorkedReports.{IntegrityPeriod, Interrogation, MomentBelow};
+ghost use Rattle.bay_examples.specs.WorkedBreaks.{TwoMembersInOneWindow, TwoWindows};
+ghost use Rattle.bay_examples.specs.WorkedBreaks.{RepeatedMember, PurgeClosesEntry};
+ghost use Rattle.bay_examples.specs.WorkedBreaks.{InterrogationClosesEntry};
 ghost use Rattle.bay_examples.specs.WorkedBreaks.{IntegrityBeforeEffect, PeriodsBeginAnew};
-ghost use Rattle.bay_examples.specs.WorkedBuffer.{GapMark, OversizedEntry, ExactCapacity, PurgeOfUnsent, PurgeOfSent, PurgingChanges};
-ghost use Rattle.bay_examples.specs.WorkedResumes.{ResumeAtNewest, ResumeBelowFront, RefusedEntryIDs, LossAndResume, EnabledTwice};
-ghost use Rattle.bay_examples.specs.WorkedHolding.{Holding, LossOfAnother, RefusedComponents, RefusalsInOrder};
-ghost use Rattle.bay_examples.specs.WorkedReservations.{RunsOut, Stopped, Shared, OwnersRead, ClampedLoss};
+ghost use Rattle.bay_examples.specs.WorkedBuffer.{GapMark, OversizedEntry, ExactCapacity};
+ghost use Rattle.bay_examples.specs.WorkedBuffer.{PurgeOfUnsent, PurgeOfSent, PurgingChanges};
+ghost use Rattle.bay_examples.specs.WorkedResumes.{ResumeAtNewest, ResumeBelowFront};
+ghost use Rattle.bay_examples.specs.WorkedResumes.{RefusedEntryIDs, LossAndResume, EnabledTwice};
+ghost use Rattle.bay_examples.specs.WorkedHolding.{Holding, LossOfAnother, RefusedComponents};
+ghost use Rattle.bay_examples.specs.WorkedHolding.{RefusalsInOrder};
+ghost use Rattle.bay_examples.specs.WorkedReservations.{RunsOut, Stopped, Shared, OwnersRead};
+ghost use Rattle.bay_examples.specs.WorkedReservations.{ClampedLoss};
 ghost use Rattle.bay_examples.specs.WorkedBlocks.{TieOfBlocks, EarliestStep};
-ghost use Rattle.bay_examples.specs.WorkedReads.{ReadsOfNewestEntry, CountedChanges, ReadOfStructure, RefusedAccess, LongReads};
-ghost use Rattle.bay_examples.specs.WorkedControls.{RefusedOpers, ActAndTermination, NegativeTermination, TestOperate, CancelledSelection};
-ghost use Rattle.bay_examples.specs.WorkedControls.{BlockedAndLost, SelectedBesideLoss, LostExecution, LostTermination, RefusedSelects};
-ghost use Rattle.bay_examples.specs.WorkedSelections.{SelectedBySBO, OperatedMany, DirectControl, BlockedSBO};
-ghost use Rattle.bay_examples.specs.WorkedSettings.{ActiveGroup, EditedGroup, ConfirmedActive, HeldEdit, LastActivation, DroppedEdit, SetByProcess};
-ghost use Rattle.bay_examples.specs.WorkedRequests.{RepliesInOrder, EnabledByRequest, DefinedSet, NamesAndDeletions, NamesOfSize, WaitingRepliesFull};
+ghost use Rattle.bay_examples.specs.WorkedReads.{ReadsOfNewestEntry, CountedChanges};
+ghost use Rattle.bay_examples.specs.WorkedReads.{ReadOfStructure, RefusedAccess, LongReads};
+ghost use Rattle.bay_examples.specs.WorkedControls.{RefusedOpers, ActAndTermination};
+ghost use Rattle.bay_examples.specs.WorkedControls.{NegativeTermination, TestOperate};
+ghost use Rattle.bay_examples.specs.WorkedControls.{CancelledSelection};
+ghost use Rattle.bay_examples.specs.WorkedControls.{BlockedAndLost, SelectedBesideLoss};
+ghost use Rattle.bay_examples.specs.WorkedControls.{LostExecution, LostTermination, RefusedSelects};
+ghost use Rattle.bay_examples.specs.WorkedSelections.{SelectedBySBO, OperatedMany, DirectControl};
+ghost use Rattle.bay_examples.specs.WorkedSelections.{BlockedSBO};
+ghost use Rattle.bay_examples.specs.WorkedSettings.{ActiveGroup, EditedGroup, ConfirmedActive};
+ghost use Rattle.bay_examples.specs.WorkedSettings.{HeldEdit, LastActivation, DroppedEdit};
+ghost use Rattle.bay_examples.specs.WorkedSettings.{SetByProcess};
+ghost use Rattle.bay_examples.specs.WorkedRequests.{RepliesInOrder, EnabledByRequest, DefinedSet};
+ghost use Rattle.bay_examples.specs.WorkedRequests.{NamesAndDeletions, NamesOfSize};
+ghost use Rattle.bay_examples.specs.WorkedRequests.{WaitingRepliesFull};
 ghost use Rattle.bay_examples.specs.WorkedRequests.{TerminationsNotCounted, RefusedSteps};
 
 /// Worked histories of events, and of what is reported of them.

@@ -4,7 +4,7 @@ use Rattle.bay_model.specs.Acceptance.{Fault, IsOpen, NotOpen, NotYours, QueueFu
 use Rattle.bay_histories.specs.declared.fault.StepFault.{StepFault}
 use Rattle.bay_histories.specs.declared.fault.StepFault.TheVariants as faults
 
--- the fault that a refusal names; want of memory is no fault of the step
+-- the fault that a refusal names; out of memory is no fault of the step
 abbrev pub named : StepFault → Option Fault
 named (faults.IsOpen a) = Some (IsOpen a.0)
 named (faults.NotOpen a) = Some (NotOpen a.0)

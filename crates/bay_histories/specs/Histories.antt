@@ -41,7 +41,7 @@ abbrev pub IsLegal : Rules → Config → History → Type 0
 IsLegal rules c [] = ⊤
 IsLegal rules c (t ∷ h) = IsLegal rules c h × (rules.fault c h t ≡ None)
 
--- why a step is refused after a history; want of memory is no fault of the step
+-- why a step is refused after a history; out of memory is no fault of the step
 abbrev pub IsRefused : Rules → Config → History → Turn → StepFault → Type 0
 IsRefused rules c h t f = named f ≡ rules.fault c h t
 

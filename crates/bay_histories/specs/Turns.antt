@@ -11,7 +11,7 @@ use Rattle.bay_histories.specs.Faults.{named}
 use Rattle.bay_histories.specs.Rules.{Rules}
 
 -- From old to new by a turn: an accepted one is answered as the rules have it, and new stands for the longer history;
--- a refused one has the fault that the rules name, or wants memory where they name none, and leaves all as it was.
+-- a refused one has the fault that the rules name, or is out of memory where they name none, and leaves all as it was.
 abbrev pub Does : {M : Type 0} → Rules → (M → Config → History → Type 0) → M → M → Turn → Result Answer StepFault → Type 0
 Does rules stands old new t (Ok a) = (c : Config) (h : History) → stands old c h → (a ≡ rules.answer c h t) × stands new c (t ∷ h)
 Does rules stands old new t (Err f) = (new ≡ old) × ((c : Config) (h : History) → stands old c h → named f ≡ rules.fault c h t)
@@ -26,7 +26,7 @@ is_lean (steps.Block k flag) = true
 is_lean steps.Tick = true
 is_lean _ = false
 
--- a step that needs no memory is not refused for want of it
+-- a step that needs no memory is not refused as out of memory
 abbrev pub KeepsLean : Step → Result Answer StepFault → Type 0
 KeepsLean step (Ok a) = Unit {0}
 KeepsLean step (Err faults.Memory) = is_lean step ≡ false

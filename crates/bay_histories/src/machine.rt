@@ -37,11 +37,16 @@ pub trait StateMachine: Send + Drop {
         actor: ActorNo,
         step: &Step,
     ) -> Result<Answer, StepFault>
-        requires { (c : Config) × (h : History) × stands self.old c h × (fits_in c step.now ≡ true) × (length h < 2 ^ 62) }
-        ensures does { Does rules stands self.old self.new (record { moment = moment; actor = actor.0; step = step.now }) result }
+        requires { (c : Config) × (h : History) × stands self.old c h × (fits_in c step.now ≡ true)
+            × (length h < 2 ^ 62) }
+        ensures does { Does rules stands self.old self.new (record {
+          moment = moment;
+          actor = actor.0;
+          step = step.now;
+        }) result }
         // It stands for accepted steps alone.
         ensures legal { (c : Config) (h : History) → stands self.new c h → IsLegal rules c h }
-        // Some steps are never refused for want of memory.
+        // Some steps are never refused when out of memory.
         ensures lean { KeepsLean step.now result }
         // What the process does, and time that passes, is never refused.
         ensures process { KeepsProcess step.now result };

@@ -63,7 +63,7 @@ module _ (c : Model) (a : ℕ) (past : Past) (G : Deed → Type 0) (g : OfSingle
   call k j v mistyped = g.of_nothing
   call k j v (barred cause) = g.of_nothing
 
-  -- the refusals of a component's write behind that of one which is held
+  -- the refusals of a component's write after that of one which is held
   abbrev refusals_further : (b : ℕ) → Comp → Value → List (Bool × ℕ)
   refusals_further b comp v = (contradicts comp v (parameters_at c b past), 8) ∷ (not (is_in_range (comp_kind comp) v) || is_of_nothing c b comp v past, 11) ∷ []
 

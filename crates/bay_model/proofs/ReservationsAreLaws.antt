@@ -23,7 +23,7 @@ use Rattle.list_laws.proofs.Options.{some_is}
 abbrev has : ℕ → List ℕ → Bool
 has e es = list_any (λ i. i == e) es
 
--- a write of e that has no loss behind it
+-- a write of e that has no loss after it
 abbrev waits : ℕ → List Written → Bool
 waits e [] = false
 waits e (w ∷ ws) = ((w.by == e) && is_none w.first) || waits e ws

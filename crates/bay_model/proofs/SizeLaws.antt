@@ -12,7 +12,7 @@ octets names = length (flat_map identifier names)
 more-octets : (n : List ℕ) (ns : List (List ℕ)) → octets (n ∷ ns) ≡ length (identifier n) + octets ns
 more-octets n ns = length-append (identifier n) (flat_map identifier ns)
 
--- the names behind one, where it is no longer than the size
+-- the names after one, where it is no longer than the size
 abbrev behind : ℕ → ℕ → Bool → List (List ℕ) → List (List ℕ)
 behind size long fits ns = if fits then within (size - long) ns else []
 

@@ -1,5 +1,5 @@
 -- Which steps are accepted, and why one is refused (IEC 61850-7-2, the application association model; that an
--- association has an opener and a writer, and room for 16 replies, is this profile's own).
+-- association has an opener and a writer, and memory for 16 replies, is this profile's own).
 use Rattle.std.specs.Prelude.{◌≡◌, ⊤, ℕ, Bool, ◌||◌, ◌==◌, nat_le, [], ◌∷◌, Option, None, Some, is_some, if◌then◌else◌}
 use Rattle.std.specs.Option.{option_map_or}
 use Rattle.bay_model.specs.declared.step.Step.{Step}

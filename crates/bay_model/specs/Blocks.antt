@@ -23,7 +23,7 @@ abbrev pub enabler : ℕ → Past → Option ℕ
 enabler b [] = None
 enabler b (p ∷ before) = enabler_after b p.deed (enabler b before)
 
--- an association has enabled a block, and another has; mine tells which one it is
+-- an association has enabled a block, and another has; mine says which one it is
 abbrev pub is_mine : {H : Type 0} → (H → Bool) → Option H → Bool
 is_mine mine enabler = option_map_or mine enabler false
 

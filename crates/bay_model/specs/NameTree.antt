@@ -16,7 +16,7 @@ pub data Forest : Type 0 where
   nothing : Forest
   named : (name : List ℕ) → Role → TypeOf → (parts : Forest) → (others : Forest) → Forest
 
--- the name up to the first `$`; what stands behind that
+-- the name up to the first `$`; what stands after that
 abbrev pub first_name : Named → List ℕ
 first_name n = before_first (λ o. o == 36) n.item
 

@@ -65,7 +65,7 @@ abbrev pub places : List ℕ → Forest → List Place
 places before nothing = []
 places before (named n r k parts others) = place (before ++ n) r k parts ∷ (places (before ++ n ++ 36 ∷ []) parts ++ places before others)
 
--- the octets of an element with a content of so many
+-- the octets of an element with a content of that many
 abbrev pub headed : ℕ → ℕ
 headed n = 1 + length (length_field n) + n
 

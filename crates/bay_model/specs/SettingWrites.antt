@@ -21,7 +21,7 @@ holds_edit a d past = is_held_by a (edit d past)
 abbrev pub is_edited_by_another : ℕ → ℕ → Past → Bool
 is_edited_by_another a d past = is_held_by_another a (edit d past)
 
--- the refusals of a's ActSG n, of its EditSG n and of its CnfEdit, behind that of another kind; there are so many groups
+-- the refusals of a's ActSG n, of its EditSG n and of its CnfEdit, after that of another kind; there are n groups
 abbrev pub act_refusals : ℕ → ℕ → List (Bool × ℕ)
 act_refusals count n = ((n == 0) || nat_lt count n, OBJECT_VALUE_INVALID) ∷ []
 

@@ -25,7 +25,7 @@ are_too_long size results = nat_lt size (length (flat_map access_result results)
 abbrev pub identifier : List ℕ → List ℕ
 identifier name = element 0x1A name
 
--- Of these names those that a PDU of this size can hold, and the one after them, which tells that more follow: each before
+-- Of these names those that a PDU of this size can hold, and the one after them, which says that more follow: each before
 -- which the names alone are no more octets than the size.
 abbrev pub within : ℕ → List (List ℕ) → List (List ℕ)
 within size [] = []

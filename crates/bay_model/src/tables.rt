@@ -33,7 +33,8 @@ impl Model for AttrIds {
 }
 
 impl AttrIds {
-    ghost use Rattle.std.specs.Prelude.{◌≡◌, ◌==◌, take, drop, length, slice_get, option_copied, IfOk};
+    ghost use Rattle.std.specs.Prelude.{◌≡◌, ◌==◌, take, drop, length, slice_get, option_copied};
+    ghost use Rattle.std.specs.Prelude.{IfOk};
 
     /// The row of these attributes.
     pub fn from_vec(alloc: Global, items: Vec<AttrId>) -> Result<Self, AllocError>
@@ -50,7 +51,7 @@ impl AttrIds {
         })
     }
 
-    /// At most so many of these attributes, from a place on, counted from 0. It takes no memory.
+    /// At most that many of these attributes, from a place on, counted from 0. It takes no memory.
     pub fn part(&self, first: u32, count: u32) -> Result<Self, AllocError>
         ensures { IfOk result (λ l. l ≡ take count (drop first self.now)) }
     {

@@ -1,4 +1,4 @@
--- How a bay begins: each report block as it is configured, with an empty buffer, room for the members of any data set, and the number of
+-- How a bay begins: each report block as it is configured, with an empty buffer, memory for the members of any data set, and the number of
 -- the one that its DatSet names (IEC 61850-7-2, BRCB attribute DatSet).
 use Rattle.std.specs.Prelude.{ℕ, Option, None, map, replicate}
 use Rattle.sv_base.specs.declared.config.BlockDef.{BlockDef}

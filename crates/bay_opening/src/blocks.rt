@@ -19,7 +19,7 @@ use sv_base::BlockDef;
 /// How many members a data set, and so a report, has at most.
 pub const MOST_MEMBERS: u32 = 256;
 
-/// A block with an empty buffer, and room for the members of any data set, of those too that clients may define.
+/// A block with an empty buffer, and memory for the members of any data set, of those too that clients may define.
 fn part_of(alloc: Global, book: &SetBook, def: &BlockDef) -> Result<ReportBlock, AllocError>
     requires { IsServedBlock def.now }
     ensures { IfOk result (λ p. seen p ≡ part_defined book.now def.now) }
@@ -48,13 +48,15 @@ pub(crate) struct Blocks {
     pub(crate) watch: Watch,
 }
 
-/// The data sets and the blocks as they are configured, with the room that notes need for so many attributes.
+/// The data sets and the blocks as they are configured, with the memory that notes need for n attributes.
 pub(crate) fn blocks_made(alloc: Global, model: &Model, attrs: u32) -> Result<Blocks, AllocError>
     requires servable { IsServable model.now }
     requires attrs { attrs ≡ length (opened model.now) }
     ensures sets { IfOk result (λ b. b.sets ≡ booked (set_rows model.now)) }
-    ensures parts { IfOk result (λ b. map seen b.parts.items ≡ map (part_defined (booked (set_rows model.now))) model.now.blocks) }
-    ensures watch { IfOk result (λ b. IsWatching (node_rows model.now) b.sets attrs b.parts.items b.watch) }
+    ensures parts { IfOk result (λ b. map seen b.parts.items
+        ≡ map (part_defined (booked (set_rows model.now))) model.now.blocks) }
+    ensures watch { IfOk result
+        (λ b. IsWatching (node_rows model.now) b.sets attrs b.parts.items b.watch) }
 {
     let sets = SetBook::open(alloc, model.sets())?;
     let Ok(parts) = parts_of(alloc, model, &sets) else {

@@ -1,5 +1,5 @@
 //! What a bay of a configuration begins with: its values, setting groups, data sets, controls and report blocks as they are configured
-//! (IEC 61850-7-2), and the room that its steps need.
+//! (IEC 61850-7-2), and the memory that its steps need.
 #![tactic(auto)]
 
 mod blocks;

@@ -75,16 +75,18 @@ pub struct Made {
     pub rooms: Rooms,
 }
 
-/// The values, the setting groups, the data sets, the controls and the blocks as they are configured, no open association, and the room that
-/// notes, entries and changes need. Where memory is wanting the model is let go.
+/// The values, the setting groups, the data sets, the controls and the blocks as they are configured, no open association, and the memory that
+/// notes, entries and changes need. When out of memory the model is let go.
 pub fn parts_made(alloc: Global, model: Model) -> Result<Made, AllocError>
     requires { IsServable model }
     ensures model { IfOk result (λ m. m.model ≡ model) }
     ensures values { IfOk result (λ m. m.values ≡ opened model) }
     ensures groups { IfOk result (λ m. m.groups ≡ grouped model (domains_of model)) }
     ensures sets { IfOk result (λ m. m.sets ≡ booked (set_rows model)) }
-    ensures parts { IfOk result (λ m. map seen m.parts.items ≡ map (part_defined (booked (set_rows model))) model.blocks) }
-    ensures watch { IfOk result (λ m. IsWatching (node_rows model) m.sets (length m.values) m.parts.items m.watch) }
+    ensures parts { IfOk result (λ m. map seen m.parts.items
+        ≡ map (part_defined (booked (set_rows model))) model.blocks) }
+    ensures watch { IfOk result (λ m. IsWatching (node_rows model) m.sets
+        (length m.values) m.parts.items m.watch) }
     ensures dues { IfOk result (λ m. m.rooms.dues ≡ replicate (length m.parts.items) (Some 0)) }
     ensures associations { IfOk result (λ m. m.rooms.associations ≡ queues_opened model) }
     ensures events { IfOk result (λ m. HasRoom 256 m.rooms.events) }

@@ -1,4 +1,4 @@
-//! The room that the steps of a bay need.
+//! The memory that the steps of a bay need.
 
 ghost use Rattle.std.specs.Prelude.{◌≡◌, ◌≤◌, IfOk, Some, replicate, vec_capacity};
 ghost use Rattle.report_block.specs.Events.{HasRoom};
@@ -13,7 +13,7 @@ use report_block::EventRoom;
 use std::alloc::{AllocError, Global};
 use sv_base::Config;
 
-/// Room for what the blocks wait for and what associations wait for, for changes, and for events and replies.
+/// Memory for what the blocks wait for and what associations wait for, for changes, and for events and replies.
 #[derive(Drop)]
 pub struct Rooms {
     pub dues: Dues,
@@ -23,7 +23,7 @@ pub struct Rooms {
     pub octets: Fixed,
 }
 
-/// Room for so many blocks and so many attributes, with no open association and the controls as they are configured.
+/// Memory for n blocks and n attributes, with no open association and the controls as they are configured.
 pub(crate) fn rooms_made(
     alloc: Global,
     config: &Config,

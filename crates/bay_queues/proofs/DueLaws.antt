@@ -240,7 +240,7 @@ queued-taken rows t a number is = record {
       (λ k. omega (arith, is.due a k number, ends-drop k (row_of rows a).waiting)) (λ e k differ. omega arith);
 }
 
--- where one waits for a, the command is a's, so none waits for another, and behind it none for a
+-- where one waits for a, the command is a's, so none waits for another, and after it none for a
 pub queued-ended : (rows : List Row) (t : Table) (a : ℕ) (k : CtlNo) (good : Bool) → IsNumber a → k.0 < length t.controls → slice_get (row_of rows a).waiting 0 ≡ Some (Termination k good) → IsQueued rows t
     → IsQueued (tables.taken rows a) (changed t k.0 (stopped (control_at t.controls k.0)))
 queued-ended rows t a k good number below first is = record {

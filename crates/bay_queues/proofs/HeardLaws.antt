@@ -106,7 +106,7 @@ tests-all m (o ∷ os) h =
     ∙ (ap (λ l. l ++ tests_among m os) (numbers-append h.tests (map ctl_no own) ∙ ap (λ l. map number h.tests ++ l) (numbers-back own ∙ tests-told m (deed_of o)))
     ∙ append_assoc (map number h.tests) (tests_of m (deed_of o)) (tests_among m os))
 
--- ---- the tests of a step, behind its singles
+-- ---- the tests of a step, after its singles
 
 pub tests-after : (m : Model) (a n t : ℕ) (ss : List Single) (past : Past) → tests m n (after_singles m a n t ss past) ≡ tests m n past ++ tests_among m (outcomes m a n t ss past)
 tests-after m a n t [] past = sym (append-nil (tests m n past))

@@ -1,4 +1,4 @@
--- The terminations of a request's tests: each is due and none of them waits, until they are put behind the reply.
+-- The terminations of a request's tests: each is due and none of them waits, until they are put after the reply.
 use Rattle.std.proofs.Common.{◌≡◌, ◌≢◌, ℕ, zero, suc, ◌+◌, ◌-◌, ◌≤◌, ◌<◌, Bool, true, false, List, [], ◌∷◌, ◌++◌, length, map, drop, take, refl, sym, ap, ◌∙◌, subst, arith, inl, inr, ◌==◌, append-nil, append_assoc}
 use Rattle.std.specs.Prelude.{None, ◌&&◌, ◌||◌, if◌then◌else◌, slice_index_or}
 use Rattle.std.specs.List.{list_any}
@@ -112,7 +112,7 @@ module _ (q : Queued) (a k : ℕ) (v : Value) (below : k < length q.table.contro
     by true false enhanced test = subst (λ js. AreTests (after-call operate) a js) (sym (append-nil ks)) (call-kept operate ks h)
     by false t enhanced test = subst (λ js. AreTests (after-call operate) a js) (sym (append-nil ks)) (call-kept operate ks h)
 
--- ---- terminations that are put one behind another
+-- ---- terminations that are put one after another
 
 any-at : (k : ℕ) (ks : List CtlNo) (i : ℕ) (d : CtlNo) → i < length ks → list_any (λ l. k == l) (map number ks) ≡ false → (k == (slice_index_or ks i d).0) ≡ false
 any-at k [] i d below h = absurd (omega (arith, below))
@@ -177,7 +177,7 @@ told-once q a (k ∷ ks) h j low = by (k.0 == j) refl (told-once q a ks (record 
       (omega (arith, (h.each 0 k (omega arith)).free, (h.each 0 k (omega arith)).due, told-ends ks k.0 h.apart.0))
   by false e rest = rest
 
--- all that is so of the queues when a reply was put, and behind it the terminations of tests
+-- all that is so of the queues when a reply was put, and after it the terminations of tests
 pub queued-reply : (q : Queued) (a : ℕ) (output : Output) (ks : List CtlNo) → IsNumber a → AreTests q a ks → IsQueued q.rows q.table → IsQueued (tables.extended q.rows a (reply_and output ks)) q.table
 queued-reply q a output ks number are is = record {
   count = count-more q.rows a (reply_and output ks) is.count;
@@ -194,7 +194,7 @@ take-all : (ks : List CtlNo) → take (length ks) ks ≡ ks
 take-all [] = refl
 take-all (k ∷ ks) = ap (λ js. k ∷ js) (take-all ks)
 
--- what stands behind the first
+-- what stands after the first
 pub rest-is : (ks : List CtlNo) → take (length ks - 1) (drop 1 ks) ≡ drop 1 ks
 rest-is [] = refl
 rest-is (k ∷ ks) = let n : suc (length ks) - 1 ≡ length ks = omega arith in ap (λ m. take m ks) n ∙ take-all ks

@@ -15,7 +15,7 @@ pub record Heard : Type 0 where
   pub before : List ApplError
   pub acts : List Act
   pub tests : List CtlNo
-  -- of how many singles there is room for
+  -- of how many singles there is capacity for
   pub room : ℕ
 
 -- nothing yet

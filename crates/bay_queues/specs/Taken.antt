@@ -27,7 +27,7 @@ after_done k good q = record {
   table = after_deed (finished k.0 good) q.table;
 }
 
--- a reply, and the positive terminations of tests behind it
+-- a reply, and the positive terminations of tests after it
 abbrev pub reply_and : Output → List CtlNo → List Waiting
 reply_and output tests = Reply output ∷ map (λ k. Termination k true) tests
 

@@ -9,7 +9,7 @@ use std::marker::Model;
 use sv_base::CtlNo;
 
 /// The codes of a request's writes, the errors that go before its reply, the controls that act, and those whose terminations follow the
-/// reply, all in room that was made before.
+/// reply, all in memory that was allocated before.
 #[derive(Drop)]
 pub struct Heard {
     room: usize,
@@ -39,14 +39,23 @@ impl Model for Heard {
 
     ghost coded = { Prim.hlevel (codes, row_code) };
 
-    ghost view = { λ h. record { codes = h.answers.items; before = h.before.items; acts = h.acts.items; tests = h.tests.items; room = h.room } };
+    ghost view = { λ h. record {
+      codes = h.answers.items;
+      before = h.before.items;
+      acts = h.acts.items;
+      tests = h.tests.items;
+      room = h.room;
+    } };
 
-    ghost invariant = { λ h. (h.room ≤ vec_capacity h.answers) × (h.room ≤ vec_capacity h.before) × (h.room ≤ vec_capacity h.acts)
+    ghost invariant = { λ h. (h.room ≤ vec_capacity h.answers) × (h.room ≤ vec_capacity h.before)
+        × (h.room ≤ vec_capacity h.acts)
         × (h.room ≤ vec_capacity h.tests)
-        × (length h.before.items ≤ length h.answers.items) × (length h.acts.items ≤ length h.answers.items) × (length h.tests.items ≤ length h.answers.items) };
+        × (length h.before.items ≤ length h.answers.items)
+        × (length h.acts.items ≤ length h.answers.items)
+        × (length h.tests.items ≤ length h.answers.items) };
 }
 
-/// Adds something in room that was made before.
+/// Adds something in memory that was allocated before.
 fn add<T: Drop>(items: &mut Vec<T>, item: T)
     requires room { vec_len items.old < vec_capacity items.old }
     ensures added { items.new.items ≡ items.old.items ++ item ∷ [] }
@@ -59,7 +68,7 @@ impl Heard {
     ghost use Rattle.std.specs.Prelude.{◌≡◌, ◌<◌, ◌++◌, ◌∷◌, [], Err, Ok, length, IfOk};
     ghost use Rattle.bay_queues.specs.Heard.{unheard};
 
-    /// Nothing yet, with room for so many singles.
+    /// Nothing yet, with capacity for n singles.
     pub fn new(alloc: Global, room: usize) -> Result<Heard, AllocError>
         ensures { IfOk result (λ h. h ≡ unheard room) }
     {
@@ -87,7 +96,11 @@ impl Heard {
     /// A command was refused with an error.
     pub(crate) fn barred(&mut self, error: ApplError)
         requires room { length self.old.codes < self.old.room }
-        ensures { self.new ≡ record self.old { codes = self.old.codes ++ Err OBJECT_ACCESS_DENIED ∷ []; before = self.old.before ++ error ∷ [] } }
+        ensures { self.new ≡ record self.old {
+          codes = self.old.codes ++ Err OBJECT_ACCESS_DENIED
+              ∷ [];
+          before = self.old.before ++ error ∷ [];
+        } }
     {
         add(&mut self.before, error);
         add(&mut self.answers, Err(access_errors::OBJECT_ACCESS_DENIED));
@@ -96,7 +109,10 @@ impl Heard {
     /// An Oper was accepted, and its control acts.
     pub(crate) fn acted(&mut self, act: Act)
         requires room { length self.old.codes < self.old.room }
-        ensures { self.new ≡ record self.old { codes = self.old.codes ++ Ok tt ∷ []; acts = self.old.acts ++ act ∷ [] } }
+        ensures { self.new ≡ record self.old {
+          codes = self.old.codes ++ Ok tt ∷ [];
+          acts = self.old.acts ++ act ∷ [];
+        } }
     {
         add(&mut self.acts, act);
         add(&mut self.answers, Ok(()));
@@ -105,7 +121,10 @@ impl Heard {
     /// A test operate was accepted, whose termination follows the reply.
     pub(crate) fn tested(&mut self, control: CtlNo)
         requires room { length self.old.codes < self.old.room }
-        ensures { self.new ≡ record self.old { codes = self.old.codes ++ Ok tt ∷ []; tests = self.old.tests ++ control ∷ [] } }
+        ensures { self.new ≡ record self.old {
+          codes = self.old.codes ++ Ok tt ∷ [];
+          tests = self.old.tests ++ control ∷ [];
+        } }
     {
         add(&mut self.tests, control);
         add(&mut self.answers, Ok(()));

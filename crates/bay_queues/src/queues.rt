@@ -50,7 +50,8 @@ fn end_tests(associations: &mut Assocs, a: AssocNo, tests: &[CtlNo])
     requires number { IsNumber a.0 }
     requires count { length associations.old ≡ 16 }
     requires free { AreFree (row_of associations.old a.0).waiting tests.now }
-    ensures { associations.new ≡ extended associations.old a.0 (map (λ k. Termination k true) tests.now) }
+    ensures { associations.new ≡ extended associations.old a.0
+        (map (λ k. Termination k true) tests.now) }
 {
     if let [test, more @ ..] = tests {
         let _ = associations.queue(a, Waiting::Termination(*test, true));
@@ -90,7 +91,8 @@ fn because(error: ApplError, cause: u8) -> ApplError
 }
 
 impl Queues {
-    ghost use Rattle.std.specs.Prelude.{◌≡◌, ◌≤◌, ◌<◌, ◌∷◌, [], ℕ, Some, true, false, nat_le, None, is_some, map, length, replicate, option_copied};
+    ghost use Rattle.std.specs.Prelude.{◌≡◌, ◌≤◌, ◌<◌, ◌∷◌, [], ℕ, Some, true, false, nat_le, None};
+    ghost use Rattle.std.specs.Prelude.{is_some, map, length, replicate, option_copied};
     ghost use Rattle.std.specs.Prelude.{IfOk, OnOk, OnErr, if◌then◌else◌};
     ghost use Rattle.std.specs.Option.{option_map};
     ghost use Rattle.std.specs.List.{All};
@@ -99,7 +101,8 @@ impl Queues {
     ghost use Rattle.bay_model.specs.Points.{selected_control, blocked};
     ghost use Rattle.assoc_table.specs.Seats.{closed, replies};
     ghost use Rattle.assoc_table.specs.Tables.{IsNumber, row_of, started};
-    ghost use Rattle.bay_model.specs.Model.{operate as operate_call, select as select_call, cancel as cancel_call};
+    ghost use Rattle.bay_model.specs.Model.{operate as operate_call, select as select_call};
+    ghost use Rattle.bay_model.specs.Model.{cancel as cancel_call};
     ghost use Rattle.bay_model.specs.Commands.{command_of, is_command};
     ghost use Rattle.control_core.specs.Answers.{went_of};
     ghost use Rattle.control_core.specs.Controls.{can_select_at, due, went_at};
@@ -107,15 +110,20 @@ impl Queues {
     ghost use Rattle.control_core.specs.Tables.{control_at, opened_of, at_moment, after_deed};
     ghost use Rattle.bay_queues.specs.Queued.{IsQueued, configs};
     ghost use Rattle.bay_queues.specs.Heard.{heard_with};
-    ghost use Rattle.bay_queues.specs.Calling.{blame_in, outcome_at, enhanced_in, after_call, AreTests, IsDone};
+    ghost use Rattle.bay_queues.specs.Calling.{blame_in, outcome_at, enhanced_in, after_call};
+    ghost use Rattle.bay_queues.specs.Calling.{AreTests, IsDone};
     ghost use Rattle.assoc_table.specs.declared.waiting.Waiting.TheVariants.{Termination};
-    ghost use Rattle.bay_queues.specs.Taken.{after_done, after_reply, after_end, oldest, next_of, after_take, IsNoTermination};
+    ghost use Rattle.bay_queues.specs.Taken.{after_done, after_reply, after_end, oldest, next_of};
+    ghost use Rattle.bay_queues.specs.Taken.{after_take, IsNoTermination};
 
-    /// No association is open, and no control is selected, runs or is blocked. All the room that they ever need is made.
+    /// No association is open, and no control is selected, runs or is blocked. All the memory that they ever need is allocated.
     pub fn open(alloc: Global, config: &Config) -> Result<Queues, AllocError>
         requires kinds { All (λ (d : CtlDef). IsCtlKind d.kind) config.now.controls }
         requires few { length config.now.controls ≤ 64 }
-        ensures { IfOk result (λ q. q ≡ record { rows = replicate 16 closed; table = opened_of (map control_defined config.now.controls) }) }
+        ensures { IfOk result (λ q. q ≡ record {
+          rows = replicate 16 closed;
+          table = opened_of (map control_defined config.now.controls);
+        }) }
     {
         let associations = Assocs::open(alloc)?;
         let controls = Controls::open(alloc, config)?;
@@ -219,7 +227,8 @@ impl Queues {
         ensures left { self.new ≡ after_done c good self.old }
         ensures queued { IsQueued self.old.rows self.old.table }
         // That association has a number.
-        ensures number { (x : ℕ) → due (control_at self.old.table.controls c.0).execution ≡ Some x → IsNumber x }
+        ensures number { (x : ℕ) → due (control_at self.old.table.controls c.0).execution
+            ≡ Some x → IsNumber x }
     {
         if let Some(a) = self.controls.done(c, good) {
             let _ = self.associations.queue(a, Waiting::Termination(c, good));
@@ -229,7 +238,10 @@ impl Queues {
     /// The process blocks or unblocks a control.
     pub fn block(&mut self, c: CtlNo, flag: bool)
         requires { c.0 < length self.old.table.controls }
-        ensures { self.new ≡ record self.old { table = after_deed (blocked c.0 flag) self.old.table } }
+        ensures { self.new ≡ record self.old {
+          table = after_deed
+              (blocked c.0 flag) self.old.table;
+        } }
     {
         self.controls.block(c, flag);
     }
@@ -237,9 +249,12 @@ impl Queues {
     /// An association reads a control's SBO: whether that selects it.
     pub fn select(&mut self, c: CtlNo, a: AssocNo) -> bool
         requires { c.0 < length self.old.table.controls }
-        ensures answer { result ≡ can_select_at self.old.table.moment (control_at self.old.table.controls c.0) }
+        ensures answer { result ≡ can_select_at self.old.table.moment
+            (control_at self.old.table.controls c.0) }
         ensures left { self.new ≡ (if can_select_at self.old.table.moment
-            (control_at self.old.table.controls c.0) then record self.old { table = after_deed (selected_control a.0 c.0) self.old.table } else self.old) }
+            (control_at self.old.table.controls c.0)
+            then record self.old { table = after_deed (selected_control a.0 c.0) self.old.table }
+            else self.old) }
     {
         self.controls.select(c, a)
     }
@@ -271,10 +286,13 @@ impl Queues {
         heard: &mut Heard,
     ) -> Result<(), u8>
         requires control { c.0 < length self.old.table.controls }
-        requires typed { is_command (control_at self.old.table.controls c.0).config.kind select_call (command_of value.now) ≡ true }
+        requires typed { is_command (control_at self.old.table.controls c.0).config.kind select_call
+            (command_of value.now) ≡ true }
         requires room { length heard.old.codes < heard.old.room }
-        ensures went { went_of result ≡ went_at self.old.table.moment select_call a.0 value.now (control_at self.old.table.controls c.0) }
-        ensures did { OnOk result (IsDone a.0 c.0 select_call value.now self.old self.new heard.old heard.new) }
+        ensures went { went_of result ≡ went_at self.old.table.moment select_call a.0 value.now
+            (control_at self.old.table.controls c.0) }
+        ensures did { OnOk result
+            (IsDone a.0 c.0 select_call value.now self.old self.new heard.old heard.new) }
         ensures kept { OnErr result ((self.new ≡ self.old) × (heard.new ≡ heard.old)) }
     {
         self.controls.select_with(c, a, value)?;
@@ -285,10 +303,13 @@ impl Queues {
     /// An association writes a control's Cancel with a value of its type.
     fn cancel(&mut self, a: AssocNo, c: CtlNo, value: &Value, heard: &mut Heard) -> Result<(), u8>
         requires control { c.0 < length self.old.table.controls }
-        requires typed { is_command (control_at self.old.table.controls c.0).config.kind cancel_call (command_of value.now) ≡ true }
+        requires typed { is_command (control_at self.old.table.controls c.0).config.kind cancel_call
+            (command_of value.now) ≡ true }
         requires room { length heard.old.codes < heard.old.room }
-        ensures went { went_of result ≡ went_at self.old.table.moment cancel_call a.0 value.now (control_at self.old.table.controls c.0) }
-        ensures did { OnOk result (IsDone a.0 c.0 cancel_call value.now self.old self.new heard.old heard.new) }
+        ensures went { went_of result ≡ went_at self.old.table.moment cancel_call a.0 value.now
+            (control_at self.old.table.controls c.0) }
+        ensures did { OnOk result
+            (IsDone a.0 c.0 cancel_call value.now self.old self.new heard.old heard.new) }
         ensures kept { OnErr result ((self.new ≡ self.old) × (heard.new ≡ heard.old)) }
     {
         self.controls.cancel(c, a, value)?;
@@ -300,10 +321,14 @@ impl Queues {
     fn operate(&mut self, a: AssocNo, c: CtlNo, value: &Value, heard: &mut Heard) -> Result<(), u8>
         requires number { IsNumber a.0 }
         requires control { c.0 < length self.old.table.controls }
-        requires typed { is_command (control_at self.old.table.controls c.0).config.kind operate_call (command_of value.now) ≡ true }
+        requires typed { is_command
+            (control_at self.old.table.controls c.0).config.kind operate_call
+            (command_of value.now) ≡ true }
         requires room { length heard.old.codes < heard.old.room }
-        ensures went { went_of result ≡ went_at self.old.table.moment operate_call a.0 value.now (control_at self.old.table.controls c.0) }
-        ensures did { OnOk result (IsDone a.0 c.0 operate_call value.now self.old self.new heard.old heard.new) }
+        ensures went { went_of result ≡ went_at self.old.table.moment operate_call a.0 value.now
+            (control_at self.old.table.controls c.0) }
+        ensures did { OnOk result
+            (IsDone a.0 c.0 operate_call value.now self.old self.new heard.old heard.new) }
         ensures kept { OnErr result ((self.new ≡ self.old) × (heard.new ≡ heard.old)) }
     {
         let said = self.controls.ctl_val(c, value);
@@ -323,10 +348,13 @@ impl Queues {
     ) -> Result<(), u8>
         requires number { IsNumber a.0 }
         requires control { c.0 < length self.old.table.controls }
-        requires typed { is_command (control_at self.old.table.controls c.0).config.kind call (command_of value.now) ≡ true }
+        requires typed { is_command (control_at self.old.table.controls c.0).config.kind call
+            (command_of value.now) ≡ true }
         requires room { length heard.old.codes < heard.old.room }
-        ensures went { went_of result ≡ went_at self.old.table.moment call a.0 value.now (control_at self.old.table.controls c.0) }
-        ensures did { OnOk result (IsDone a.0 c.0 call value.now self.old self.new heard.old heard.new) }
+        ensures went { went_of result ≡ went_at self.old.table.moment call a.0 value.now
+            (control_at self.old.table.controls c.0) }
+        ensures did { OnOk result
+            (IsDone a.0 c.0 call value.now self.old self.new heard.old heard.new) }
         ensures kept { OnErr result ((self.new ≡ self.old) × (heard.new ≡ heard.old)) }
     {
         match call {
@@ -351,9 +379,11 @@ impl Queues {
         requires control { c.0 < length self.old.table.controls }
         requires blame { blame ≡ blame_in (configs self.old.table) c.0 call value.now }
         requires room { length heard.old.codes < heard.old.room }
-        ensures heard { heard.new ≡ heard_with (enhanced_in self.old.table) (outcome_at self.old.table a.0 c.0 call value.now) heard.old }
+        ensures heard { heard.new ≡ heard_with (enhanced_in self.old.table)
+            (outcome_at self.old.table a.0 c.0 call value.now) heard.old }
         ensures left { self.new ≡ after_call a.0 c.0 call value.now self.old }
-        ensures tests { AreTests self.old a.0 heard.old.tests → AreTests self.new a.0 heard.new.tests }
+        ensures tests { AreTests self.old a.0 heard.old.tests
+            → AreTests self.new a.0 heard.new.tests }
     {
         let Some(error) = blame else {
             heard.code(Err(access_errors::TYPE_INCONSISTENT));
@@ -364,7 +394,7 @@ impl Queues {
         }
     }
 
-    /// Puts a reply behind what waits for an association, and behind it the positive terminations of the request's tests.
+    /// Puts a reply after what waits for an association, and after it the positive terminations of the request's tests.
     pub fn answer(&mut self, a: AssocNo, output: Output, tests: &[CtlNo])
         requires number { IsNumber a.0 }
         requires room { nat_le 16 (replies (row_of self.old.rows a.0).waiting) ≡ false }
@@ -410,7 +440,7 @@ impl Queues {
     }
 
     /// Takes what waits longest for an association; none exactly where nothing waits. Memory is wanted for a termination alone, and
-    /// where it is wanting nothing changes.
+    /// where it is lacking nothing changes.
     pub fn take(&mut self, alloc: Global, a: AssocNo) -> Result<Option<Output>, AllocError>
         requires { IsNumber a.0 }
         ensures queued { IsQueued self.old.rows self.old.table }

@@ -28,7 +28,7 @@ fn open_bay(alloc: Global, model: &Model) -> Result<Bay, AllocError>
 }
 
 /// Opens a bay of a model, and lets actors race over it, each in a thread of its own, one turn a step. An actor stops at its first
-/// turn that is refused. The actors' numbers fall, from 32 or below. Fails for want of memory alone.
+/// turn that is refused. The actors' numbers fall, from 32 or below. Fails only when out of memory.
 pub fn race_over<R: Threads + Wait + Sync, G: Gate>(
     rt: &R,
     alloc: Global,

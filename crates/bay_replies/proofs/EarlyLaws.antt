@@ -9,7 +9,7 @@ use Rattle.bay_replies.specs.Held.{left_of}
 use Rattle.bay_replies.specs.Reading.{early_len, early_read, early_reads, least_len, selecting_in}
 use Rattle.bay_replies.proofs.SizeLaws.{drop-one, none-left, some-left}
 
--- done are read, left is what is left behind the least that they are
+-- done are read, left is what is left after the least that they are
 module _ (r : Replies) (size left k : ℕ) (ts : List Target) (done : List (Result Value ℕ)) (are : done ++ early_reads r (drop k ts) ≡ early_reads r ts) (count : least_len r ts + left ≡ size + least_len r (drop k ts)) where
   abbrev len_of : Target → ℕ
   len_of t = early_len r t (selecting_in r.model.now t)

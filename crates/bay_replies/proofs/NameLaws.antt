@@ -11,12 +11,12 @@ use Rattle.bay_replies.specs.Replied.{empty_if}
 use Rattle.list_laws.proofs.Distinct.{octets_turned as turned, octets_same, octets_equal}
 use Rattle.list_laws.proofs.Truths.{and-left, and-right}
 
--- ---- names, of which so many are empty
+-- ---- names, of which that many are empty
 
 abbrev IsSome : List ℕ → Type 0
 IsSome n = is_below [] n ≡ true
 
--- the first so many are empty, and no other one
+-- the first that many are empty, and no other one
 abbrev IsSplit : ℕ → List (List ℕ) → Type 0
 IsSplit zero [] = Unit {0}
 IsSplit zero (n ∷ ns) = IsSome n × IsSplit zero ns

@@ -70,7 +70,7 @@ length-both : (xs ys : List (Result Value ℕ)) → length (octets (xs ++ ys)) �
 length-both [] ys = omega arith
 length-both (x ∷ xs) ys = omega (arith, length-append (access_result x) (octets (xs ++ ys)), length-append (access_result x) (octets xs), length-both xs ys)
 
--- done are read, left is what is left behind them
+-- done are read, left is what is left after them
 module _ {A : Type 0} (f : A → Result Value ℕ) (size left k : ℕ) (xs : List A) (done : List (Result Value ℕ)) (are : done ++ map f (drop k xs) ≡ map f xs) (count : length (octets done) + left ≡ size) where
   pub too-much : (x : A) (one : Result Value ℕ) → k < length xs → x ≡ get_or xs k x → one ≡ f x → left_of left (length (access_result one)) ≡ None → held_within size (map f xs) ≡ None
   too-much x one below is same none =

@@ -24,7 +24,7 @@ copy_read None = Err TEMPORARILY_UNAVAILABLE
 copy_read (Some h) = Ok h.value
 
 -- The attribute of a line has its value, and so has one that a control generates; the edit copies, as many as there are settings, stand
--- behind these.
+-- after these.
 abbrev pub copies_from : List Stored → Grouped → ℕ
 copies_from stored groups = length stored - length groups.settings
 

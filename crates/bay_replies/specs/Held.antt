@@ -7,6 +7,6 @@ use Rattle.bay_model.specs.Sizes.{are_too_long}
 abbrev pub held_within : ℕ → List (Result Value ℕ) → Option (List (Result Value ℕ))
 held_within size results = if are_too_long size results then None else Some results
 
--- what is left of some octets behind so many; none where these are more
+-- what is left of some octets after that many; none where these are more
 abbrev pub left_of : ℕ → ℕ → Option ℕ
 left_of left n = if nat_le n left then Some (left - n) else None

@@ -10,7 +10,7 @@ use Rattle.bay_model.specs.Named.{configured_model}
 abbrev pub HasGroups : Config → ℕ → Type 0
 HasGroups c d = 0 < (groups_of (configured_model c) d).count
 
--- one of so many attributes, of the components of so many blocks, or of the setting group block of such a domain; what stands under CO is
+-- one of n attributes, of the components of n blocks, or of the setting group block of such a domain; what stands under CO is
 -- withheld
 abbrev pub IsPlainLeaf : (attrs blocks : ℕ) → (ℕ → Type 0) → Leaf → Type 0
 IsPlainLeaf attrs blocks G (attribute x) = x < attrs

@@ -63,7 +63,7 @@ abbrev pub IsReadBy : Replies → ℕ → List Target → List (Result Value ℕ
 IsReadBy r size ts results false = results ≡ early_reads r ts
 IsReadBy r size ts results true = size < least_len r ts
 
--- all that were read before their turn; a PDU of the greatest size wants memory
+-- all that were read before their turn; a PDU of the greatest size is out of memory
 pub record IsRead (r : Replies) (size : ℕ) (ts : List Target) (x : Read) : Type 0 where
   pub small : size < 4294967295
   pub read : IsReadBy r size ts x.results.items x.is_cut

@@ -23,10 +23,13 @@ ghost use Rattle.bay_replies.specs.Standing.{SetsStand};
 /// Nothing comes of the single reads of a request that reads and writes no variable, where the members of data sets are nodes that may be
 /// members: its points are as many arrivals.
 pub fn nothing_comes_of_reads()
-    ensures deeds { (c : Config) (a n m : ℕ) (past : Past) (s : Service) → AreAllowed c past → IsReading s
-        → map deed_of (outcomes (configured_model c) a n m (singles_of (configured_model c) past s) past)
+    ensures deeds { (c : Config) (a n m : ℕ) (past : Past) (s : Service)
+        → AreAllowed c past → IsReading s
+        → map deed_of (outcomes (configured_model c) a n m
+        (singles_of (configured_model c) past s) past)
         ≡ map (λ o. nothing) (singles_of (configured_model c) past s) }
-    ensures points { (c : Config) (a n m : ℕ) (past : Past) (s : Service) → AreAllowed c past → IsReading s
+    ensures points { (c : Config) (a n m : ℕ) (past : Past) (s : Service)
+        → AreAllowed c past → IsReading s
         → after_singles (configured_model c) a n m (singles_of (configured_model c) past s) past
         ≡ arrivals n m (length (singles_of (configured_model c) past s)) past }
 {}
@@ -34,12 +37,15 @@ pub fn nothing_comes_of_reads()
 /// The nodes of a configuration are attributes, components of report blocks and of setting group blocks, what controls have, and
 /// structures of these, all of which are there; an SBO may be no member of a data set.
 pub fn nodes_are_plain()
-    ensures { (c : Config) (n : ℕ) → IsGrouped c → IsPlainNode (length (attributes c)) (length c.blocks) (length c.controls) (HasGroups c)
+    ensures { (c : Config) (n : ℕ) → IsGrouped c
+        → IsPlainNode (length (attributes c)) (length c.blocks) (length c.controls) (HasGroups c)
         (node_of (configured_model c) n) }
 {}
 
 /// The opened book has the data sets of each history in which clients defined none, and each of them has a name.
 pub fn opened_books_are_served()
-    ensures sets { (c : Config) (past : Past) → dynamic past ≡ [] → SetsStand (opened (set_rows c)) (configured_model c) past }
-    ensures named { (c : Config) (k : ℕ) → k < length (opened (set_rows c)).sets → (set_at (opened (set_rows c)) k).name.item ≢ [] }
+    ensures sets { (c : Config) (past : Past) → dynamic past ≡ []
+        → SetsStand (opened (set_rows c)) (configured_model c) past }
+    ensures named { (c : Config) (k : ℕ) → k < length (opened (set_rows c)).sets
+        → (set_at (opened (set_rows c)) k).name.item ≢ [] }
 {}

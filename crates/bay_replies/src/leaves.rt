@@ -44,9 +44,10 @@ impl<'a> Replies<'a> {
         }
     }
 
-    /// An attribute. The edit copies of settings stand behind all that have values.
+    /// An attribute. The edit copies of settings stand after all that have values.
     fn attribute(&self, alloc: Global, attr: AttrId) -> Result<Result<Value, u8>, AllocError>
-        ensures { IfOk result (λ r. r ≡ attribute_read self.entry.now.store.now self.entry.now.groups.now attr.0) }
+        ensures { IfOk result (λ r. r
+            ≡ attribute_read self.entry.now.store.now self.entry.now.groups.now attr.0) }
     {
         let number = attr.0 as usize;
         let copies = self.store.len().saturating_sub(self.groups.len());
@@ -67,7 +68,8 @@ impl<'a> Replies<'a> {
         block: BlockNo,
         comp: Comp,
     ) -> Result<Result<Value, u8>, AllocError>
-        ensures { IfOk result (λ r. r ≡ component_read self.entry.now.was self.entry.now.now comp (slice_get self.entry.now.blocks.now block.0)) }
+        ensures { IfOk result (λ r. r ≡ component_read self.entry.now.was self.entry.now.now comp
+            (slice_get self.entry.now.blocks.now block.0)) }
     {
         component_of(
             alloc,

@@ -61,7 +61,8 @@ impl<'a> Replies<'a> {
 
     /// The domains above a name, or all of them.
     fn domains(&self, alloc: Global, after: Option<&Octs>) -> Result<Vec<Octs>, AllocError>
-        ensures { IfOk result (λ v. v.items ≡ listed (option_copied after.entry) (domains_of self.entry.now.model.now)) }
+        ensures { IfOk result (λ v. v.items ≡ listed (option_copied after.entry)
+            (domains_of self.entry.now.model.now)) }
     {
         let all = in_order(domains(alloc, self.model.config().nodes.as_slice())?)?;
         match after {
@@ -77,7 +78,8 @@ impl<'a> Replies<'a> {
         domain: &[u8],
         after: Option<&Octs>,
     ) -> Result<Vec<Octs>, AllocError>
-        ensures { IfOk result (λ v. v.items ≡ listed (option_copied after.entry) (variables_of (configured_model self.entry.now.model.now) domain.now)) }
+        ensures { IfOk result (λ v. v.items ≡ listed (option_copied after.entry)
+            (variables_of (configured_model self.entry.now.model.now) domain.now)) }
     {
         match after {
             Some(after) => {
@@ -99,8 +101,10 @@ impl<'a> Replies<'a> {
         domain: &[u8],
         after: Option<&Octs>,
     ) -> Result<Vec<Octs>, AllocError>
-        requires { (k : ℕ) → k < length self.now.book.now.sets → (set_at self.now.book.now k).name.item ≢ [] }
-        ensures { IfOk result (λ v. v.items ≡ listed (option_copied after.entry) (items_in domain.now self.entry.now.book.now.sets)) }
+        requires { (k : ℕ) → k < length self.now.book.now.sets
+            → (set_at self.now.book.now k).name.item ≢ [] }
+        ensures { IfOk result (λ v. v.items ≡ listed (option_copied after.entry)
+            (items_in domain.now self.entry.now.book.now.sets)) }
     {
         let above = match after {
             Some(after) => after.as_slice(),
@@ -119,8 +123,10 @@ impl<'a> Replies<'a> {
         scope: &Scope,
         after: Option<&Octs>,
     ) -> Result<Vec<Octs>, AllocError>
-        requires { (k : ℕ) → k < length self.now.book.now.sets → (set_at self.now.book.now k).name.item ≢ [] }
-        ensures { IfOk result (λ v. v.items ≡ listed (option_copied after.entry) (scoped self.entry.now class scope.now)) }
+        requires { (k : ℕ) → k < length self.now.book.now.sets
+            → (set_at self.now.book.now k).name.item ≢ [] }
+        ensures { IfOk result (λ v. v.items ≡ listed (option_copied after.entry)
+            (scoped self.entry.now class scope.now)) }
     {
         match scope {
             Scope::Vmd if class == object_classes::DOMAIN => self.domains(alloc, after),
@@ -143,8 +149,10 @@ impl<'a> Replies<'a> {
         scope: &Scope,
         after: Option<&Octs>,
     ) -> Result<Reply, AllocError>
-        requires { (k : ℕ) → k < length self.now.book.now.sets → (set_at self.now.book.now k).name.item ≢ [] }
-        ensures { IfOk result (λ r. r ≡ names_by self.entry.now size class scope.now (option_copied after.entry)) }
+        requires { (k : ℕ) → k < length self.now.book.now.sets
+            → (set_at self.now.book.now k).name.item ≢ [] }
+        ensures { IfOk result (λ r. r ≡ names_by self.entry.now size class scope.now
+            (option_copied after.entry)) }
     {
         if self.is_unknown(scope) {
             return Ok(Reply::Error {

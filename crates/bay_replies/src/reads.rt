@@ -43,7 +43,8 @@ impl<'a> Replies<'a> {
     ghost use Rattle.set_view.specs.Shapes.{AreThere};
     ghost use Rattle.bay_replies.specs.Given.{node_read, target_read};
     ghost use Rattle.bay_replies.specs.Held.{held_within};
-    ghost use Rattle.bay_replies.specs.Reading.{reference_read, selecting_in, IsEarly, IsRead, IsTarget};
+    ghost use Rattle.bay_replies.specs.Reading.{reference_read, selecting_in, IsEarly, IsRead};
+    ghost use Rattle.bay_replies.specs.Reading.{IsTarget};
 
     /// The control whose SBO a variable is.
     fn selecting(&self, target: &Target) -> Option<u32>
@@ -61,7 +62,8 @@ impl<'a> Replies<'a> {
 
     /// What a control's SBO gives where its read selects.
     fn read_reference(&self, alloc: Global, control: u32) -> Result<Result<Value, u8>, AllocError>
-        ensures { IfOk result (λ r. r ≡ reference_read (slice_get self.entry.now.model.now.controls control)) }
+        ensures { IfOk result (λ r. r ≡ reference_read
+            (slice_get self.entry.now.model.now.controls control)) }
     {
         match self.model.config().controls.get(control as usize) {
             Some(line) => Ok(Ok(Value::Text(reference_of(alloc, line)?))),
@@ -100,7 +102,7 @@ impl<'a> Replies<'a> {
     }
 
     /// Variables before their turn. It reads no further than to the first that is too much for a PDU of this size, whichever reads of SBO
-    /// select. A PDU of 4294967295 octets wants memory.
+    /// select. A PDU of 4294967295 octets is out of memory.
     pub fn read_targets(
         &self,
         alloc: Global,
@@ -142,7 +144,8 @@ impl<'a> Replies<'a> {
         nodes: &[NodeId],
     ) -> Result<Option<Results>, AllocError>
         requires { AreThere (length (nodes_of self.now.model.now)) nodes.now }
-        ensures { IfOk result (λ r. r ≡ held_within size (map (λ (x : Node). node_read self.entry.now x.0) nodes.now)) }
+        ensures { IfOk result (λ r. r ≡ held_within size
+            (map (λ (x : Node). node_read self.entry.now x.0) nodes.now)) }
     {
         let mut results = Vec::new(alloc);
         let mut left = size;

@@ -59,7 +59,8 @@ impl<'a> Replies<'a> {
 
     /// The reply by its service.
     fn answer(&self, alloc: Global, size: u32, service: &Service) -> Result<Reply, AllocError>
-        requires served { IsServed self.now.model.now self.now.store.now self.now.groups.now self.now.blocks.now self.now.book.now }
+        requires served { IsServed self.now.model.now self.now.store.now self.now.groups.now
+            self.now.blocks.now self.now.book.now }
         requires fits { IsFitting self.now.model.now service.now }
         ensures { IfOk result (λ r. r ≡ replied self.entry.now size service.now) }
     {
@@ -91,11 +92,14 @@ impl<'a> Replies<'a> {
     /// PDUs of this size in octets. Where values and codes alone are longer than that it is the error of class service with the code
     /// pdu-size; a data set or a domain that isn't there gives that of class access with the code object-non-existent.
     pub fn reply(&self, alloc: Global, size: u32, service: &Service) -> Result<Reply, AllocError>
-        requires served { IsServed self.now.model.now self.now.store.now self.now.groups.now self.now.blocks.now self.now.book.now }
+        requires served { IsServed self.now.model.now self.now.store.now self.now.groups.now
+            self.now.blocks.now self.now.book.now }
         requires fits { IsFitting self.now.model.now service.now }
         requires reading { IsReading service.now }
-        ensures { IfOk result (λ r. IsReplyTo self.entry.now.model.now self.entry.now.store.now self.entry.now.groups.now
-            self.entry.now.blocks.now self.entry.now.book.now self.entry.now.was self.entry.now.now size service.now r) }
+        ensures { IfOk result (λ r. IsReplyTo self.entry.now.model.now self.entry.now.store.now
+            self.entry.now.groups.now
+            self.entry.now.blocks.now self.entry.now.book.now self.entry.now.was self.entry.now.now
+            size service.now r) }
     {
         // no moment lies above the last that a step can have
         let _last = self.was.ms();

@@ -23,7 +23,8 @@ fn asked_set(spec: bool, name: SetName) -> Asked
 /// The reply to Read: the results with the specification, and the error of class service with the code pdu-size, where values and
 /// codes are longer than a PDU.
 pub(crate) fn read_reply(asked: Asked, results: Option<Results>) -> Reply
-    ensures { (size : ℕ) (all : List (Result Value ℕ)) → results ≡ held_within size all → result ≡ read_reply_of size asked all }
+    ensures { (size : ℕ) (all : List (Result Value ℕ)) → results ≡ held_within size all
+        → result ≡ read_reply_of size asked all }
 {
     match results {
         Some(results) => Reply::Read { asked, results },
@@ -81,8 +82,10 @@ impl<'a> Replies<'a> {
         item: &Octs,
         spec: bool,
     ) -> Result<Reply, AllocError>
-        requires { (k : ℕ) → k < length self.now.book.now.sets → AreThere (length (nodes_of self.now.model.now)) (set_at self.now.book.now k).nodes }
-        ensures { IfOk result (λ r. r ≡ read_set_by self.entry.now size (set_named domain.now item.now) spec
+        requires { (k : ℕ) → k < length self.now.book.now.sets
+            → AreThere (length (nodes_of self.now.model.now)) (set_at self.now.book.now k).nodes }
+        ensures { IfOk result (λ r. r ≡ read_set_by self.entry.now size
+            (set_named domain.now item.now) spec
             (number_named (set_named domain.now item.now) self.entry.now.book.now)) }
     {
         let name = set_name(alloc, domain, item)?;

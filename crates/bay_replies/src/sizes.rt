@@ -1,7 +1,8 @@
-//! How many octets results and names have, and what is left behind them (ISO 9506-2, AccessResult and Identifier).
+//! How many octets results and names have, and what is left after them (ISO 9506-2, AccessResult and Identifier).
 
 ghost use Rattle.std.specs.Prelude.{◌≡◌, ◌<◌, ℕ, length, min, take, IfOk};
-ghost use Rattle.bay_model.specs.Sizes.{access_result, are_too_long as are_too_long_in, identifier, within};
+ghost use Rattle.bay_model.specs.Sizes.{access_result, are_too_long as are_too_long_in, identifier};
+ghost use Rattle.bay_model.specs.Sizes.{within};
 ghost use Rattle.bay_replies.specs.Held.{left_of};
 
 use data_lengths::{data_len, element_len};
@@ -36,8 +37,8 @@ fn name_len(name: &[u8]) -> u32
     element_len(name.len().min(4294967295) as u32)
 }
 
-/// What is left of some octets behind as many as these, where 4294967295 stands for more; none where these are more. As many as
-/// 4294967295 want memory.
+/// What is left of some octets after as many as these, where 4294967295 stands for more; none where these are more. As many as
+/// 4294967295 are out of memory.
 pub fn left_behind(left: u32, len: u32) -> Result<Option<u32>, AllocError>
     ensures { (n : ℕ) → len ≡ min n 4294967295 → IfOk result (λ r. r ≡ left_of left n) }
 {

@@ -5,8 +5,10 @@ ghost use Rattle.std.specs.Option.{option_map};
 ghost use Rattle.mms_pdu.specs.ObjectName.{name_octets};
 ghost use Rattle.mms_pdu.specs.Variable.{variable_octets};
 ghost use Rattle.mms_pdu.specs.View.{name as name_seen, variable as variable_seen};
-ghost use Rattle.bay_requests.specs.Requests.{object_name as object_name_of, set_name as set_name_of};
-ghost use Rattle.bay_requests.specs.Requests.{node_of as node_named_by, target as target_named, listed_target};
+ghost use Rattle.bay_requests.specs.Requests.{object_name as object_name_of};
+ghost use Rattle.bay_requests.specs.Requests.{set_name as set_name_of};
+ghost use Rattle.bay_requests.specs.Requests.{node_of as node_named_by, target as target_named};
+ghost use Rattle.bay_requests.specs.Requests.{listed_target};
 
 use bay_model::{ObjName, SetName, Target};
 use mms_pdu::{NameList, NameView, VariableList, VariableView};
@@ -29,7 +31,8 @@ fn object_name(alloc: Global, name: &NameView<'_>) -> Result<ObjName, AllocError
 
 /// The node that a name names.
 fn node_of(model: &Model, name: &NameView<'_>) -> Option<NodeId>
-    ensures { option_map (λ n. n.0) result ≡ node_named_by model.now (name_octets (name_seen name.now)) }
+    ensures { option_map (λ n. n.0) result ≡ node_named_by model.now
+        (name_octets (name_seen name.now)) }
 {
     match *name {
         NameView::Domain { domain, item } => model.resolve(domain, item),
@@ -58,7 +61,8 @@ pub(crate) fn listed_target_of(
     model: &Model,
     variable: &VariableView<'_>,
 ) -> Result<Target, AllocError>
-    ensures { IfOk result (λ t. t ≡ listed_target model.now (variable_octets (variable_seen variable.now))) }
+    ensures { IfOk result (λ t. t ≡ listed_target model.now
+        (variable_octets (variable_seen variable.now))) }
 {
     let asked = object_name(alloc, &variable.name)?;
     match node_of(model, &variable.name) {
@@ -74,7 +78,8 @@ pub(crate) fn targets_of(
     model: &Model,
     variables: VariableList<'_>,
 ) -> Result<Vec<Target>, AllocError>
-    ensures { IfOk result (λ ts. ts.items ≡ map (listed_target model.now) (map variable_octets variables.entry)) }
+    ensures { IfOk result (λ ts. ts.items ≡ map (listed_target model.now)
+        (map variable_octets variables.entry)) }
 {
     let mut targets = Vec::new(alloc);
     for variable in variables {

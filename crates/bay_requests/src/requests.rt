@@ -2,12 +2,14 @@
 
 ghost use Rattle.std.specs.Prelude.{◌≡◌, ◌≢◌, ℕ, List, IfOk, IfSome, IsSome, Some};
 ghost use Rattle.sv_base.specs.declared.config.Config.{Config};
-ghost use Rattle.mms_pdu.specs.Request.{Request as Asked, IsRequest, IsRequestRefused, request_octets, disregarded};
+ghost use Rattle.mms_pdu.specs.Request.{Request as Asked, IsRequest, IsRequestRefused};
+ghost use Rattle.mms_pdu.specs.Request.{request_octets, disregarded};
 ghost use Rattle.mms_elements.specs.declared.fault.PduFault.{PduFault};
 ghost use Rattle.sv_base.specs.Tree.{Seen};
 ghost use Rattle.mms_pdu.specs.RequestReading.{request_at};
 ghost use Rattle.mms_pdu.specs.View.{asked as asked_seen};
-ghost use Rattle.bay_requests.specs.Requests.{IsSpelled, IsFitting, request_of, request_told, rejection_of};
+ghost use Rattle.bay_requests.specs.Requests.{IsSpelled, IsFitting, request_of, request_told};
+ghost use Rattle.bay_requests.specs.Requests.{rejection_of};
 
 use crate::services::service_of;
 use bay_model::{Request, Service};
@@ -51,7 +53,8 @@ pub fn to_request(
     requires spelled { IsSpelled (request_octets (asked_seen view)) }
     requires asks { request_octets (asked_seen view) ≢ disregarded }
     // Want of memory alone is free.
-    ensures asked { IfOk result (λ r. Some r ≡ request_of model.now (request_octets (asked_seen view.entry))) }
+    ensures asked { IfOk result (λ r. Some r ≡ request_of model.now
+        (request_octets (asked_seen view.entry))) }
     ensures fits { IfOk result (IsFitting model.now) }
 {
     match asked_of(alloc, model, view)? {
@@ -97,8 +100,10 @@ pub fn read_request(
     bytes: &[u8],
 ) -> Result<Option<Request>, AllocError>
     // Each input spells one PDU or is refused for one cause. Want of memory alone is free.
-    ensures spelled { (x : Asked (List ℕ) Seen) → IsRequest bytes.now x → IfOk result (λ r. r ≡ request_of model.now x) }
-    ensures refused { (f : PduFault) → IsRequestRefused bytes.now f → IfOk result (λ r. r ≡ rejection_of f) }
+    ensures spelled { (x : Asked (List ℕ) Seen) → IsRequest bytes.now x
+        → IfOk result (λ r. r ≡ request_of model.now x) }
+    ensures refused { (f : PduFault) → IsRequestRefused bytes.now f
+        → IfOk result (λ r. r ≡ rejection_of f) }
     ensures exact { IfOk result (λ r. r ≡ request_told model.now (request_at bytes.now)) }
     ensures fits { IfOk result (λ r. IfSome r (IsFitting model.now)) }
 {

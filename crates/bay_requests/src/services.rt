@@ -8,8 +8,10 @@ ghost use Rattle.mms_pdu.specs.Datum.{value_at};
 ghost use Rattle.mms_pdu.specs.ObjectName.{name_octets};
 ghost use Rattle.mms_pdu.specs.Service.{service_octets, scope_octets, octets as octets_of};
 ghost use Rattle.mms_pdu.specs.Variable.{variable_octets};
-ghost use Rattle.mms_pdu.specs.View.{name as name_seen, service as service_seen, scope as scope_seen};
-ghost use Rattle.bay_requests.specs.Requests.{read_set, write_set, define, set_of, scope as scope_named, service as service_asked};
+ghost use Rattle.mms_pdu.specs.View.{name as name_seen, service as service_seen};
+ghost use Rattle.mms_pdu.specs.View.{scope as scope_seen};
+ghost use Rattle.bay_requests.specs.Requests.{read_set, write_set, define, set_of};
+ghost use Rattle.bay_requests.specs.Requests.{scope as scope_named, service as service_asked};
 
 use crate::names::{set_name, set_names, target_of, targets_of};
 use crate::values::{values_of, writes_of};
@@ -54,7 +56,8 @@ fn write_set_of(
     name: &NameView<'_>,
     values: DataList<'_>,
 ) -> Result<Service, AllocError>
-    ensures { IfOk result (λ s. s ≡ write_set (name_octets (name_seen name.now)) (map value_at values.entry)) }
+    ensures { IfOk result (λ s. s ≡ write_set (name_octets (name_seen name.now))
+        (map value_at values.entry)) }
 {
     let set = set_name(alloc, name)?;
     let values = values_of(alloc, values)?;
@@ -71,7 +74,8 @@ fn define_of(
     name: &NameView<'_>,
     members: VariableList<'_>,
 ) -> Result<Service, AllocError>
-    ensures { IfOk result (λ s. s ≡ define model.now (name_octets (name_seen name.now)) (map variable_octets members.entry)) }
+    ensures { IfOk result (λ s. s ≡ define model.now (name_octets (name_seen name.now))
+        (map variable_octets members.entry)) }
 {
     let set = set_name(alloc, name)?;
     let members = targets_of(alloc, model, members)?;
@@ -98,7 +102,8 @@ pub(crate) fn service_of(
     model: &Model,
     service: ServiceView<'_>,
 ) -> Result<Service, AllocError>
-    ensures { IfOk result (λ s. s ≡ service_asked model.now (service_octets (service_seen service.entry))) }
+    ensures { IfOk result (λ s. s ≡ service_asked model.now
+        (service_octets (service_seen service.entry))) }
 {
     match service {
         ServiceView::Status => Ok(Service::Status),

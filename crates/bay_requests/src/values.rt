@@ -44,7 +44,8 @@ pub(crate) fn writes_of(
     variables: VariableList<'_>,
     values: DataList<'_>,
 ) -> Result<Vec<Write>, AllocError>
-    ensures { IfOk result (λ ws. ws.items ≡ map (write_of model.now) (zip (map variable_octets variables.entry) (map value_at values.entry))) }
+    ensures { IfOk result (λ ws. ws.items ≡ map (write_of model.now)
+        (zip (map variable_octets variables.entry) (map value_at values.entry))) }
 {
     let mut writes = Vec::new(alloc);
     for (variable, datum) in variables.zip(values) {

@@ -1,4 +1,4 @@
--- Octets that are cut into members, and one more member behind them.
+-- Octets that are cut into members, and one more member after them.
 use Rattle.std.proofs.Common.{◌≡◌, refl, ap, ap₂, sym, ◌∙◌, ◌≤◌, ◌<◌, ℕ, zero, suc, ◌+◌, ◌-◌, List, [], ◌∷◌, ◌++◌, length, take, drop, arith, length-append, subst, slice_index_or}
 use Rattle.std.specs.List.{concat, slice_range}
 use Rattle.std.proofs.lemmas.List.{take-append-le, drop-append-le, length-take, length-drop}
@@ -28,7 +28,7 @@ pub range-behind : (octets o : List ℕ) → slice_range (octets ++ o) (length o
 range-behind octets o = ap (λ l. take (length (octets ++ o) - length octets) l) (drop-append_seam octets o)
     ∙ (ap (λ n. take n o) (omega (arith, length-append octets o)) ∙ take-length o)
 
--- a member behind the others
+-- a member after the others
 pub cut_and_more : (from : ℕ) (ends octets o : List ℕ) → IsCut from ends octets
     → cut_at from (ends ++ length (octets ++ o) ∷ []) (octets ++ o) ≡ cut_at from ends octets ++ o ∷ []
 cut_and_more from [] octets o cut = ap (λ l. l ∷ []) (subst (λ n. slice_range (octets ++ o) n (length (octets ++ o)) ≡ o) (sym cut) (range-behind octets o))

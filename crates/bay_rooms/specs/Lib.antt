@@ -1,3 +1,3 @@
--- octets and members, and values in room
+-- octets and members, and values in memory
 pub mod Rooms
 pub mod Slots

@@ -1,8 +1,8 @@
--- Lists in room that was made before.
+-- Lists in memory that was allocated before.
 use Rattle.std.specs.Prelude.{ℕ, zero, suc, slice_index_or, ◌≡◌, ◌≤◌, List, [], ◌∷◌, length}
 use Rattle.std.specs.List.{slice_range}
 
--- the octets of each member; how many members have room, and how many octets in all
+-- the octets of each member; how many members fit, and how many octets in all
 pub record FilledMembers : Type 0 where
   pub items : List (List ℕ)
   pub members : ℕ

@@ -1,4 +1,4 @@
--- A value in room that was made before, and what comes of setting it.
+-- A value in memory that was allocated before, and what comes of setting it.
 use Rattle.std.specs.Prelude.{◌≡◌, ◌⊎◌, ℕ, length, Bool, not, Result, Ok, Err, if◌then◌else◌}
 use Rattle.sv_base.specs.Same.{is_same}
 use Rattle.sv_base.specs.declared.value.Value.{Value}

@@ -1,9 +1,9 @@
-//! Octets in room that was made before, so that filling them takes no memory.
+//! Octets in memory that was allocated before, so that filling them takes no memory.
 
 use std::alloc::{AllocError, Global};
 use std::marker::Model;
 
-/// Octets in room that was made before. Contracts see the list of them, and how many have room.
+/// Octets in memory that was allocated before. Contracts see the list of them, and how many fit.
 #[derive(Debug, Drop)]
 pub struct Fixed {
     octets: Vec<u8>,
@@ -19,13 +19,15 @@ impl Model for Fixed {
 
     ghost view = { λ f. record { items = take f.len f.octets.items; room = f.room } };
 
-    ghost invariant = { λ f. (f.len ≤ vec_len f.octets) × (vec_len f.octets ≤ f.room) × (f.room ≤ vec_capacity f.octets) };
+    ghost invariant = { λ f. (f.len ≤ vec_len f.octets) × (vec_len f.octets ≤ f.room)
+        × (f.room ≤ vec_capacity f.octets) };
 }
 
 impl Fixed {
-    ghost use Rattle.std.specs.Prelude.{◌≡◌, ◌==◌, ◌<◌, ◌≤◌, ◌+◌, ◌++◌, ◌∷◌, [], length, take, drop, IfOk};
+    ghost use Rattle.std.specs.Prelude.{◌≡◌, ◌==◌, ◌<◌, ◌≤◌, ◌+◌, ◌++◌, ◌∷◌, [], length, take};
+    ghost use Rattle.std.specs.Prelude.{drop, IfOk};
 
-    /// No octets, and room for so many.
+    /// No octets, and memory for that many.
     pub fn new(alloc: Global, room: u32) -> Result<Fixed, AllocError>
         ensures { IfOk result (λ f. f ≡ record { items = []; room = room }) }
     {
@@ -43,7 +45,7 @@ impl Fixed {
         self.len = 0;
     }
 
-    /// Adds octets behind the others. It takes no memory.
+    /// Adds octets after the others. It takes no memory.
     pub fn push(&mut self, octets: &[u8])
         requires { length self.old.items + length octets.now ≤ self.old.room }
         ensures { self.new ≡ record { items = self.old.items ++ octets.now; room = self.old.room } }
@@ -57,10 +59,13 @@ impl Fixed {
         }
     }
 
-    /// Adds octets behind the others, as many as are known beforehand. It takes no memory.
+    /// Adds octets after the others, as many as are known beforehand. It takes no memory.
     pub fn push_array<const N: usize>(&mut self, octets: [u8; N])
         requires { length self.old.items + N ≤ self.old.room }
-        ensures { self.new ≡ record { items = self.old.items ++ octets.entry; room = self.old.room } }
+        ensures { self.new ≡ record {
+          items = self.old.items ++ octets.entry;
+          room = self.old.room;
+        } }
     {
         let end = self.len + N;
         if end <= self.octets.len() {
@@ -82,16 +87,19 @@ impl Fixed {
         self.len = self.octets.len();
     }
 
-    /// The same for an array, which is taken whole, so that it needn't lie in memory where there is room.
+    /// The same for an array, which is taken whole, so that it needn't lie in memory where there is some.
     #[inline(never)]
     fn lengthen_by<const N: usize>(&mut self, octets: [u8; N])
         requires { length self.old.items + N ≤ self.old.room }
-        ensures { self.new ≡ record { items = self.old.items ++ octets.entry; room = self.old.room } }
+        ensures { self.new ≡ record {
+          items = self.old.items ++ octets.entry;
+          room = self.old.room;
+        } }
     {
         self.lengthen(&octets);
     }
 
-    /// Takes the octets of another one with as much room. It takes no memory.
+    /// Takes the octets of another one with as much capacity. It takes no memory.
     pub fn copy_from(&mut self, other: &Fixed)
         requires { other.now.room ≡ self.old.room }
         ensures { self.new ≡ other.now }
@@ -104,7 +112,11 @@ impl Fixed {
     pub fn insert(&mut self, at: usize, octets: &[u8])
         requires place { at ≤ length self.old.items }
         requires room { length self.old.items + length octets.now ≤ self.old.room }
-        ensures { self.new ≡ record { items = take at self.old.items ++ (octets.now ++ drop at self.old.items); room = self.old.room } }
+        ensures { self.new ≡ record {
+          items = take at self.old.items
+              ++ (octets.now ++ drop at self.old.items);
+          room = self.old.room;
+        } }
     {
         self.octets.truncate(self.len);
         let _ = self.octets.extend_from_slice(octets);
@@ -126,7 +138,7 @@ impl Fixed {
         self.len == 0
     }
 
-    /// How many octets have room.
+    /// How many octets have capacity.
     pub fn room(&self) -> usize
         ensures { result ≡ self.now.room }
     {

@@ -1,4 +1,4 @@
-//! Room that is made before it is filled: octets, the Data of members, and values of attributes. Filling it takes no memory.
+//! Memory that is made before it is filled: octets, the Data of members, and values of attributes. Filling it takes no memory.
 #![tactic(auto)]
 
 mod fixed;

@@ -1,4 +1,4 @@
-//! The Data of members in room that was made before, so that filling them takes no memory.
+//! The Data of members in memory that was allocated before, so that filling them takes no memory.
 
 ghost use Rattle.std.specs.Prelude.{◌≡◌, ◌<◌, length};
 ghost use Rattle.bay_rooms.specs.Rooms.{begins};
@@ -14,8 +14,8 @@ fn begin_of(ends: &[usize], i: usize) -> usize
     if i == 0 { 0 } else { ends[i - 1] }
 }
 
-/// The MMS Data of the members of a note, in its order, in room that was made before. Contracts see the list of them,
-/// how many have room, and for how many octets in all there is room.
+/// The MMS Data of the members of a note, in its order, in memory that was allocated before. Contracts see the list of them,
+/// how many fit, and for how many octets in all there is memory.
 #[derive(Debug, Drop)]
 pub struct MemberBytes {
     octets: Vec<u8>,
@@ -30,17 +30,23 @@ impl Model for MemberBytes {
 
     ghost Value = { FilledMembers };
 
-    ghost view = { λ b. record { items = cut_at 0 b.ends.items b.octets.items; members = b.members; room = b.room } };
+    ghost view = { λ b. record {
+      items = cut_at 0 b.ends.items b.octets.items;
+      members = b.members;
+      room = b.room;
+    } };
 
-    ghost invariant = { λ b. (vec_len b.octets ≤ b.room) × (b.room ≤ vec_capacity b.octets) × (vec_len b.ends ≤ b.members)
+    ghost invariant = { λ b. (vec_len b.octets ≤ b.room) × (b.room ≤ vec_capacity b.octets)
+        × (vec_len b.ends ≤ b.members)
         × (b.members ≤ vec_capacity b.ends) × IsCut 0 b.ends.items b.octets.items };
 }
 
 impl MemberBytes {
-    ghost use Rattle.std.specs.Prelude.{◌≡◌, ◌==◌, ◌<◌, ◌≤◌, ◌+◌, ◌++◌, ◌∷◌, [], length, slice_index_or, IfOk};
+    ghost use Rattle.std.specs.Prelude.{◌≡◌, ◌==◌, ◌<◌, ◌≤◌, ◌+◌, ◌++◌, ◌∷◌, [], length};
+    ghost use Rattle.std.specs.Prelude.{slice_index_or, IfOk};
     ghost use Rattle.std.specs.List.{concat};
 
-    /// No member, and room for so many, of so many octets in all.
+    /// No member, and memory for that many, of n octets in all.
     pub fn new(alloc: Global, members: u32, octets: u32) -> Result<MemberBytes, AllocError>
         ensures { IfOk result (λ b. b ≡ record { items = []; members = members; room = octets }) }
     {
@@ -54,18 +60,26 @@ impl MemberBytes {
 
     /// Empties it.
     pub fn clear(&mut self)
-        ensures { self.new ≡ record { items = []; members = self.old.members; room = self.old.room } }
+        ensures { self.new ≡ record {
+          items = [];
+          members = self.old.members;
+          room = self.old.room;
+        } }
     {
         self.octets.clear();
         self.ends.clear();
     }
 
-    /// Adds a member behind the others. It takes no memory.
+    /// Adds a member after the others. It takes no memory.
     #[tactic(auto, using(crate::proofs::RoomLaws::cut_and_more, crate::proofs::RoomLaws::cut_stays))]
     pub fn push(&mut self, octets: &[u8])
         requires members { length self.old.items < self.old.members }
         requires octets { length (concat self.old.items) + length octets.now ≤ self.old.room }
-        ensures { self.new ≡ record { items = self.old.items ++ octets.now ∷ []; members = self.old.members; room = self.old.room } }
+        ensures { self.new ≡ record {
+          items = self.old.items ++ octets.now ∷ [];
+          members = self.old.members;
+          room = self.old.room;
+        } }
     {
         let _ = self.octets.extend_from_slice(octets);
         let _ = self.ends.push(self.octets.len());

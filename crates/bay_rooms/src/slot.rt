@@ -1,12 +1,15 @@
-//! The value of an attribute in room that was made before, so that setting it takes no memory.
+//! The value of an attribute in memory that was allocated before, so that setting it takes no memory.
 
-ghost use Rattle.std.specs.Prelude.{true, ◌≡◌, ◌<◌, ◌≤◌, ◌^◌, ℕ, not, bytes_eq, nat_le, Ok, Err, if◌then◌else◌, OnOk, OnErr, IfOk, length};
+ghost use Rattle.std.specs.Prelude.{true, ◌≡◌, ◌<◌, ◌≤◌, ◌^◌, ℕ, not, bytes_eq, nat_le, Ok, Err};
+ghost use Rattle.std.specs.Prelude.{if◌then◌else◌, OnOk, OnErr, IfOk, length};
 ghost use Rattle.bay_rooms.specs.declared.slot.Misfit.TheVariants as misfits;
 ghost use Rattle.sv_base.specs.Same.{is_same, is_same_bits};
 ghost use Rattle.sv_base.specs.declared.value.Value.TheVariants as values;
-ghost use Rattle.sv_base.specs.Kinds.{truth, int, uint, bits as bit_kind, time as time_kind, stamp as stamp_kind, text, octets as octet_kind};
+ghost use Rattle.sv_base.specs.Kinds.{truth, int, uint, bits as bit_kind, time as time_kind};
+ghost use Rattle.sv_base.specs.Kinds.{stamp as stamp_kind, text, octets as octet_kind};
 ghost use Rattle.sv_base.specs.Kinds.{is_kind, is_in_range, kind_of};
-ghost use Rattle.bay_rooms.specs.Slots.{set_over, held_in, IsCell, IsSettable, IsWidth, type_width, type_most};
+ghost use Rattle.bay_rooms.specs.Slots.{set_over, held_in, IsCell, IsSettable, IsWidth, type_width};
+ghost use Rattle.bay_rooms.specs.Slots.{type_most};
 
 use crate::fixed::Fixed;
 use std::alloc::{AllocError, Global};
@@ -49,7 +52,7 @@ struct Unsigned {
     value: u64,
 }
 
-/// What a slot holds, with the bits of its type, or room for its greatest length.
+/// What a slot holds, with the bits of its type, or memory for its greatest length.
 #[derive(Debug, Drop)]
 enum Cell {
     Bool(bool),
@@ -75,9 +78,12 @@ pub enum ValueRef<'a> {
     Octets(&'a [u8]),
 }
 
-/// Sets a truth value; tells whether it was another.
+/// Sets a truth value; returns whether it was another.
 fn set_bool(old: &mut bool, value: &Value) -> Result<bool, Misfit>
-    ensures answer { result ≡ set_over (record { value = values.Bool old.old; kind = truth }) value.now }
+    ensures answer { result ≡ set_over (record {
+      value = values.Bool old.old;
+      kind = truth;
+    }) value.now }
     ensures set { OnOk result (values.Bool old.new ≡ value.now) }
     ensures kept { OnErr result (old.new ≡ old.old) }
 {
@@ -91,7 +97,7 @@ fn set_bool(old: &mut bool, value: &Value) -> Result<bool, Misfit>
     }
 }
 
-/// Whether a number is within so many bits, 8, 16, 32 or 64, in two's complement.
+/// Whether a number is within n bits, 8, 16, 32 or 64, in two's complement.
 pub fn fits_int(width: u8, value: i64) -> bool
     requires { IsWidth width }
     ensures { result ≡ is_in_range (int width) (values.Int value) }
@@ -104,7 +110,7 @@ pub fn fits_int(width: u8, value: i64) -> bool
     }
 }
 
-/// Whether a number is within so many bits, 8, 16, 32 or 64.
+/// Whether a number is within n bits, 8, 16, 32 or 64.
 pub fn fits_uint(width: u8, value: u64) -> bool
     requires { IsWidth width }
     ensures { result ≡ is_in_range (uint width) (values.Uint value) }
@@ -117,10 +123,13 @@ pub fn fits_uint(width: u8, value: u64) -> bool
     }
 }
 
-/// Sets a signed number of so many bits; tells whether it was another.
+/// Sets a signed number of n bits; returns whether it was another.
 fn set_int(old: &mut Signed, value: &Value) -> Result<bool, Misfit>
     requires { IsWidth old.old.width }
-    ensures answer { result ≡ set_over (record { value = values.Int old.old.value; kind = int old.old.width }) value.now }
+    ensures answer { result ≡ set_over (record {
+      value = values.Int old.old.value;
+      kind = int old.old.width;
+    }) value.now }
     ensures set { OnOk result (values.Int old.new.value ≡ value.now) }
     ensures same_width { old.new.width ≡ old.old.width }
     ensures kept { OnErr result (old.new ≡ old.old) }
@@ -138,10 +147,13 @@ fn set_int(old: &mut Signed, value: &Value) -> Result<bool, Misfit>
     }
 }
 
-/// Sets an unsigned number of so many bits; tells whether it was another.
+/// Sets an unsigned number of n bits; returns whether it was another.
 fn set_uint(old: &mut Unsigned, value: &Value) -> Result<bool, Misfit>
     requires { IsWidth old.old.width }
-    ensures answer { result ≡ set_over (record { value = values.Uint old.old.value; kind = uint old.old.width }) value.now }
+    ensures answer { result ≡ set_over (record {
+      value = values.Uint old.old.value;
+      kind = uint old.old.width;
+    }) value.now }
     ensures set { OnOk result (values.Uint old.new.value ≡ value.now) }
     ensures same_width { old.new.width ≡ old.old.width }
     ensures kept { OnErr result (old.new ≡ old.old) }
@@ -159,9 +171,12 @@ fn set_uint(old: &mut Unsigned, value: &Value) -> Result<bool, Misfit>
     }
 }
 
-/// Sets bits, as many as there are; tells whether they were others.
+/// Sets bits, as many as there are; returns whether they were others.
 fn set_bits(old: &mut Vec<bool>, value: &Value) -> Result<bool, Misfit>
-    ensures answer { result ≡ set_over (record { value = values.Bits old.old.items; kind = bit_kind (length old.old.items) }) value.now }
+    ensures answer { result ≡ set_over (record {
+      value = values.Bits old.old.items;
+      kind = bit_kind (length old.old.items);
+    }) value.now }
     ensures set { OnOk result (values.Bits old.new.items ≡ value.now) }
     ensures kept { OnErr result (old.new ≡ old.old) }
     ensures same_length { length old.new.items ≡ length old.old.items }
@@ -179,9 +194,12 @@ fn set_bits(old: &mut Vec<bool>, value: &Value) -> Result<bool, Misfit>
     }
 }
 
-/// Sets a time; tells whether it was another.
+/// Sets a time; returns whether it was another.
 fn set_time(old: &mut Utc, value: &Value) -> Result<bool, Misfit>
-    ensures answer { result ≡ set_over (record { value = values.Time old.old; kind = time_kind }) value.now }
+    ensures answer { result ≡ set_over (record {
+      value = values.Time old.old;
+      kind = time_kind;
+    }) value.now }
     ensures set { OnOk result (values.Time old.new ≡ value.now) }
     ensures kept { OnErr result (old.new ≡ old.old) }
 {
@@ -197,9 +215,12 @@ fn set_time(old: &mut Utc, value: &Value) -> Result<bool, Misfit>
     }
 }
 
-/// Sets an entry time; tells whether it was another.
+/// Sets an entry time; returns whether it was another.
 fn set_stamp(old: &mut Stamp, value: &Value) -> Result<bool, Misfit>
-    ensures answer { result ≡ set_over (record { value = values.Stamp old.old; kind = stamp_kind }) value.now }
+    ensures answer { result ≡ set_over (record {
+      value = values.Stamp old.old;
+      kind = stamp_kind;
+    }) value.now }
     ensures set { OnOk result (values.Stamp old.new ≡ value.now) }
     ensures kept { OnErr result (old.new ≡ old.old) }
 {
@@ -213,7 +234,7 @@ fn set_stamp(old: &mut Stamp, value: &Value) -> Result<bool, Misfit>
     }
 }
 
-/// Puts octets in the place of others, within their room; tells whether they were others.
+/// Puts octets in the place of others, within their capacity; returns whether they were others.
 pub fn replace(old: &mut Fixed, new: &[u8]) -> bool
     requires { length new.now ≤ old.old.room }
     ensures differs { result ≡ not (bytes_eq new.now old.old.items) }
@@ -225,9 +246,10 @@ pub fn replace(old: &mut Fixed, new: &[u8]) -> bool
     differs
 }
 
-/// Puts octets in the place of others, where they have room; tells whether they were others.
+/// Puts octets in the place of others, where they fit; returns whether they were others.
 fn refill(old: &mut Fixed, new: &[u8]) -> Result<bool, Misfit>
-    ensures answer { result ≡ (if nat_le (length new.now) old.old.room then Ok (not (bytes_eq new.now old.old.items)) else Err misfits.Range) }
+    ensures answer { result ≡ (if nat_le (length new.now) old.old.room
+        then Ok (not (bytes_eq new.now old.old.items)) else Err misfits.Range) }
     ensures set { OnOk result (old.new ≡ record { items = new.now; room = old.old.room }) }
     ensures kept { OnErr result (old.new ≡ old.old) }
 {
@@ -237,9 +259,12 @@ fn refill(old: &mut Fixed, new: &[u8]) -> Result<bool, Misfit>
     Ok(replace(old, new))
 }
 
-/// Sets a text; tells whether it was another.
+/// Sets a text; returns whether it was another.
 fn set_text(old: &mut Fixed, value: &Value) -> Result<bool, Misfit>
-    ensures answer { result ≡ set_over (record { value = values.Text old.old.items; kind = text old.old.room }) value.now }
+    ensures answer { result ≡ set_over (record {
+      value = values.Text old.old.items;
+      kind = text old.old.room;
+    }) value.now }
     ensures set { OnOk result (values.Text old.new.items ≡ value.now) }
     ensures kept { OnErr result (old.new ≡ old.old) }
     ensures same_room { old.new.room ≡ old.old.room }
@@ -250,9 +275,12 @@ fn set_text(old: &mut Fixed, value: &Value) -> Result<bool, Misfit>
     }
 }
 
-/// Sets an octet string; tells whether it was another.
+/// Sets an octet string; returns whether it was another.
 fn set_octets(old: &mut Fixed, value: &Value) -> Result<bool, Misfit>
-    ensures answer { result ≡ set_over (record { value = values.Octets old.old.items; kind = octet_kind old.old.room }) value.now }
+    ensures answer { result ≡ set_over (record {
+      value = values.Octets old.old.items;
+      kind = octet_kind old.old.room;
+    }) value.now }
     ensures set { OnOk result (values.Octets old.new.items ≡ value.now) }
     ensures kept { OnErr result (old.new ≡ old.old) }
     ensures same_room { old.new.room ≡ old.old.room }
@@ -285,7 +313,7 @@ fn most_of(kind: &TypeOf) -> u16
     }
 }
 
-/// Octets with room for so many.
+/// Octets with capacity for that many.
 fn roomy(alloc: Global, most: u16, octets: &[u8]) -> Result<Fixed, AllocError>
     requires { length octets.now ≤ most }
     ensures { IfOk result (λ f. f ≡ record { items = octets.now; room = most }) }
@@ -300,7 +328,10 @@ fn cell_of(alloc: Global, kind: &TypeOf, value: &Value) -> Result<Cell, AllocErr
     requires plain { IsSettable kind.now }
     requires kind { is_kind (kind_of kind.now) value.now ≡ true }
     requires range { is_in_range (kind_of kind.now) value.now ≡ true }
-    ensures held { IfOk result (λ c. held_in c ≡ record { value = value.now; kind = kind_of kind.now }) }
+    ensures held { IfOk result (λ c. held_in c ≡ record {
+      value = value.now;
+      kind = kind_of kind.now;
+    }) }
     ensures cell { IfOk result IsCell }
 {
     match value {
@@ -322,7 +353,7 @@ fn cell_of(alloc: Global, kind: &TypeOf, value: &Value) -> Result<Cell, AllocErr
     }
 }
 
-/// Takes the truth value of another cell; tells whether it was another.
+/// Takes the truth value of another cell; returns whether it was another.
 fn take_bool(old: &mut bool, from: &Cell) -> bool
     requires { (held_in from.now).kind ≡ truth }
     ensures differs { result ≡ not (is_same (held_in from.now).value (values.Bool old.old)) }
@@ -338,11 +369,12 @@ fn take_bool(old: &mut bool, from: &Cell) -> bool
     }
 }
 
-/// Takes the signed number of another cell of the same width; tells whether it was another.
+/// Takes the signed number of another cell of the same width; returns whether it was another.
 fn take_int(old: &mut Signed, from: &Cell) -> bool
     requires { (held_in from.now).kind ≡ int old.old.width }
     ensures differs { result ≡ not (is_same (held_in from.now).value (values.Int old.old.value)) }
-    ensures taken { record { value = values.Int old.new.value; kind = int old.new.width } ≡ held_in from.now }
+    ensures taken { record { value = values.Int old.new.value; kind = int old.new.width }
+        ≡ held_in from.now }
     ensures same_width { old.new.width ≡ old.old.width }
 {
     match from {
@@ -355,11 +387,12 @@ fn take_int(old: &mut Signed, from: &Cell) -> bool
     }
 }
 
-/// Takes the unsigned number of another cell of the same width; tells whether it was another.
+/// Takes the unsigned number of another cell of the same width; returns whether it was another.
 fn take_uint(old: &mut Unsigned, from: &Cell) -> bool
     requires { (held_in from.now).kind ≡ uint old.old.width }
     ensures differs { result ≡ not (is_same (held_in from.now).value (values.Uint old.old.value)) }
-    ensures taken { record { value = values.Uint old.new.value; kind = uint old.new.width } ≡ held_in from.now }
+    ensures taken { record { value = values.Uint old.new.value; kind = uint old.new.width }
+        ≡ held_in from.now }
     ensures same_width { old.new.width ≡ old.old.width }
 {
     match from {
@@ -372,11 +405,14 @@ fn take_uint(old: &mut Unsigned, from: &Cell) -> bool
     }
 }
 
-/// Takes the bits of another cell of as many; tells whether they were others.
+/// Takes the bits of another cell of as many; returns whether they were others.
 fn take_bits(old: &mut Vec<bool>, from: &Cell) -> bool
     requires { (held_in from.now).kind ≡ bit_kind (length old.old.items) }
     ensures differs { result ≡ not (is_same (held_in from.now).value (values.Bits old.old.items)) }
-    ensures taken { record { value = values.Bits old.new.items; kind = bit_kind (length old.new.items) } ≡ held_in from.now }
+    ensures taken { record {
+      value = values.Bits old.new.items;
+      kind = bit_kind (length old.new.items);
+    } ≡ held_in from.now }
 {
     match from {
         Cell::Bits(new) => {
@@ -388,7 +424,7 @@ fn take_bits(old: &mut Vec<bool>, from: &Cell) -> bool
     }
 }
 
-/// Takes the time of another cell; tells whether it was another.
+/// Takes the time of another cell; returns whether it was another.
 fn take_time(old: &mut Utc, from: &Cell) -> bool
     requires { (held_in from.now).kind ≡ time_kind }
     ensures differs { result ≡ not (is_same (held_in from.now).value (values.Time old.old)) }
@@ -406,7 +442,7 @@ fn take_time(old: &mut Utc, from: &Cell) -> bool
     }
 }
 
-/// Takes the entry time of another cell; tells whether it was another.
+/// Takes the entry time of another cell; returns whether it was another.
 fn take_stamp(old: &mut Stamp, from: &Cell) -> bool
     requires { (held_in from.now).kind ≡ stamp_kind }
     ensures differs { result ≡ not (is_same (held_in from.now).value (values.Stamp old.old)) }
@@ -422,11 +458,12 @@ fn take_stamp(old: &mut Stamp, from: &Cell) -> bool
     }
 }
 
-/// Takes the text of another cell of as much room; tells whether it was another.
+/// Takes the text of another cell of as much capacity; returns whether it was another.
 fn take_text(old: &mut Fixed, from: &Cell) -> bool
     requires { (held_in from.now).kind ≡ text old.old.room }
     ensures differs { result ≡ not (is_same (held_in from.now).value (values.Text old.old.items)) }
-    ensures taken { record { value = values.Text old.new.items; kind = text old.new.room } ≡ held_in from.now }
+    ensures taken { record { value = values.Text old.new.items; kind = text old.new.room }
+        ≡ held_in from.now }
 {
     match from {
         Cell::Text(new) => {
@@ -438,11 +475,13 @@ fn take_text(old: &mut Fixed, from: &Cell) -> bool
     }
 }
 
-/// Takes the octet string of another cell of as much room; tells whether it was another.
+/// Takes the octet string of another cell of as much capacity; returns whether it was another.
 fn take_octets(old: &mut Fixed, from: &Cell) -> bool
     requires { (held_in from.now).kind ≡ octet_kind old.old.room }
-    ensures differs { result ≡ not (is_same (held_in from.now).value (values.Octets old.old.items)) }
-    ensures taken { record { value = values.Octets old.new.items; kind = octet_kind old.new.room } ≡ held_in from.now }
+    ensures differs { result ≡ not (is_same (held_in from.now).value
+        (values.Octets old.old.items)) }
+    ensures taken { record { value = values.Octets old.new.items; kind = octet_kind old.new.room }
+        ≡ held_in from.now }
 {
     match from {
         Cell::Octets(new) => {
@@ -512,7 +551,7 @@ impl Slot {
         }
     }
 
-    /// Sets the value; tells whether it was another. It takes no memory. A value that is refused leaves the one before.
+    /// Sets the value; returns whether it was another. It takes no memory. A value that is refused leaves the one before.
     pub fn set(&mut self, value: &Value) -> Result<bool, Misfit>
         ensures answer { result ≡ set_over self.old value.now }
         ensures set { OnOk result (self.new ≡ record { value = value.now; kind = self.old.kind }) }
@@ -530,7 +569,7 @@ impl Slot {
         }
     }
 
-    /// Takes the value of another slot of the same kind; tells whether it was another. It takes no memory.
+    /// Takes the value of another slot of the same kind; returns whether it was another. It takes no memory.
     pub fn copy_from(&mut self, other: &Slot) -> bool
         requires { other.now.kind ≡ self.old.kind }
         ensures differs { result ≡ not (is_same other.now.value self.old.value) }

@@ -7,8 +7,8 @@ use std::process::ExitCode;
 use std::{env, io};
 use sv_io::{ReadSource, WriteSink};
 
-/// Room that is asked for and given back at once, in octets. The C library takes large rooms from the system, and gives them back to
-/// it, one by one; once a room of this size was given back it keeps those up to it, so that what the reader of a configuration no
+/// Memory that is asked for and given back at once, in octets. The C library takes large buffers from the system, and gives them back to
+/// it, one by one; once a buffer of this size was given back it keeps those up to it, so that what the reader of a configuration no
 /// longer needs serves its model, in pages that are there already.
 const KEPT_ROOM: usize = 4 << 20;
 

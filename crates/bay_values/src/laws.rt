@@ -20,12 +20,17 @@ ghost use Rattle.bay_values.specs.Loaded.{AreLoadable};
 /// attributes and sound. Such groups give their attributes values of these types, and take those that the process and clients write.
 pub fn groups_fit_values()
     ensures opened { (c : Config) → IsServable c → AreGrouped c (opened c (domains c)) }
-    ensures loadable { (c : Config) (stored : List Stored) (s : Grouped) → IsServable c → AreHeld c stored → AreGrouped c s → AreLoadable stored s }
-    ensures typed { (c : Config) (stored : List Stored) (s : Grouped) (d : ℕ) → IsServable c → AreHeld c stored → AreGrouped c s
+    ensures loadable { (c : Config) (stored : List Stored) (s : Grouped) → IsServable c
+        → AreHeld c stored → AreGrouped c s → AreLoadable stored s }
+    ensures typed { (c : Config) (stored : List Stored) (s : Grouped) (d : ℕ) → IsServable c
+        → AreHeld c stored → AreGrouped c s
         → AreTyped c (active_settings d s) }
-    ensures put { (c : Config) (stored : List Stored) (s : Grouped) (settings : List Setting) → IsServable c → AreHeld c stored → AreGrouped c s
+    ensures put { (c : Config) (stored : List Stored) (s : Grouped) (settings : List Setting)
+        → IsServable c → AreHeld c stored → AreGrouped c s
         → AreTyped c settings → ArePut s settings }
-    ensures held { (c : Config) (stored : List Stored) (s : Grouped) (settings : List Setting) → IsServable c → AreHeld c stored → AreGrouped c s
+    ensures held { (c : Config) (stored : List Stored) (s : Grouped) (settings : List Setting)
+        → IsServable c → AreHeld c stored → AreGrouped c s
         → AreTyped c settings → AreHeldOnce IsSoundCell s settings }
-    ensures copied { (t : Settled) (v : Value) (is_held : Bool) → copy_answer is_held t v ≡ Ok tt → is_sound v ≡ true → IsSoundCell (with_value v t.copy) }
+    ensures copied { (t : Settled) (v : Value) (is_held : Bool) → copy_answer is_held t v ≡ Ok tt
+        → is_sound v ≡ true → IsSoundCell (with_value v t.copy) }
 {}

@@ -1,7 +1,8 @@
 //! The values of SG attributes where another group is the active one, or the active one was edited (IEC 61850-7-2, SelectActiveSG and
 //! ConfirmEditSGValues).
 
-ghost use Rattle.std.specs.Prelude.{◌≡◌, ◌<◌, ◌≤◌, ◌++◌, ◌∷◌, [], ℕ, List, length, slice_set, vec_len, vec_capacity};
+ghost use Rattle.std.specs.Prelude.{◌≡◌, ◌<◌, ◌≤◌, ◌++◌, ◌∷◌, [], ℕ, List, length, slice_set};
+ghost use Rattle.std.specs.Prelude.{vec_len, vec_capacity};
 ghost use Rattle.bay_model.specs.Attributes.{attributes};
 ghost use Rattle.bay_model.specs.declared.step.Setting.{Setting as SettingValue};
 ghost use Rattle.value_store.specs.Stored.{Stored, attribute, with_value};
@@ -29,8 +30,10 @@ fn load_noted(
     requires flags { length store.old ≡ length (attributes model.now) }
     requires room { vec_len changes.old < vec_capacity changes.old }
     ensures set { store.new ≡ slice_set store.old (setting_at groups.now setting).attr
-        (with_value (active_of groups.now setting).value (attribute store.old (setting_at groups.now setting).attr)) }
-    ensures noted { changes.new.items ≡ changes.old.items ++ change_from model.now store.old (setting_at groups.now setting).attr
+        (with_value (active_of groups.now setting).value
+        (attribute store.old (setting_at groups.now setting).attr)) }
+    ensures noted { changes.new.items ≡ changes.old.items ++ change_from model.now store.old
+        (setting_at groups.now setting).attr
         (active_of groups.now setting).value ∷ [] }
     ensures room { vec_capacity changes.old ≤ vec_capacity changes.new }
 {
@@ -60,7 +63,8 @@ fn load_once(
     requires room { length store.old ≤ vec_capacity changes.old }
     ensures done { (before : List Stored) (later : List SettingValue)
         → IsDone model.now before later store.old marks.old changes.old.items
-        → IsDone model.now before (active_setting groups.now setting ∷ later) store.new marks.new changes.new.items }
+        → IsDone model.now before (active_setting groups.now setting
+        ∷ later) store.new marks.new changes.new.items }
     ensures fit { AreLoadable store.old groups.now → AreLoadable store.new groups.now }
     ensures room { vec_capacity changes.old ≤ vec_capacity changes.new }
 {
@@ -86,7 +90,8 @@ fn load_all(
     requires flags { length store.old ≡ length (attributes model.now) }
     requires empty { changes.old.items ≡ [] }
     requires room { length store.old ≤ vec_capacity changes.old }
-    ensures done { IsDone model.now store.old (active_settings domain groups.now) store.new marks.new changes.new.items }
+    ensures done { IsDone model.now store.old
+        (active_settings domain groups.now) store.new marks.new changes.new.items }
     ensures room { vec_capacity changes.old ≤ vec_capacity changes.new }
 {
     for i in (0..groups.len()).rev() {
@@ -107,15 +112,17 @@ impl Values {
     ghost use Rattle.bay_values.specs.Loaded.{AreLoadable};
 
     /// Gives the SG attributes of a domain what its active group holds; adds to `changes` what became of each, once. It takes no
-    /// memory, since `changes` has room for as many as there are attributes.
+    /// memory, since `changes` has capacity for as many as there are attributes.
     pub fn load(&mut self, model: &Model, groups: &Groups, domain: u32, changes: &mut Vec<Change>)
         requires fit { AreLoadable self.old groups.now }
         requires flags { length self.old ≡ length (attributes model.now) }
         requires empty { changes.old.items ≡ [] }
         requires room { length self.old ≤ vec_capacity changes.old }
-        ensures set { (x : ℕ) → attribute self.new x ≡ last_set (active_settings domain groups.now) x (attribute self.old x) }
+        ensures set { (x : ℕ) → attribute self.new x ≡ last_set
+            (active_settings domain groups.now) x (attribute self.old x) }
         ensures count { length self.new ≡ length self.old }
-        ensures changes { AreMade model.now self.old (active_settings domain groups.now) changes.new.items }
+        ensures changes { AreMade model.now self.old
+            (active_settings domain groups.now) changes.new.items }
         ensures once { AreDistinct changes.new.items }
         ensures within { All (λ (ch : ChangeValue). ch.attr.0 < length self.old) changes.new.items }
         ensures room { vec_capacity changes.old ≤ vec_capacity changes.new }

@@ -1,6 +1,7 @@
 //! The values of a bay's attributes, and what a step of the process makes of them.
 
-ghost use Rattle.std.specs.Prelude.{◌≡◌, ◌≤◌, ◌<◌, ◌++◌, ◌∷◌, [], not, length, slice_set, vec_len, vec_capacity, List};
+ghost use Rattle.std.specs.Prelude.{◌≡◌, ◌≤◌, ◌<◌, ◌++◌, ◌∷◌, [], not, length, slice_set, vec_len};
+ghost use Rattle.std.specs.Prelude.{vec_capacity, List};
 ghost use Rattle.std.specs.List.{All};
 ghost use Rattle.sv_base.specs.Same.{is_same};
 ghost use Rattle.bay_model.specs.Attributes.{attributes};
@@ -41,11 +42,13 @@ impl std::marker::Model for Values {
     ghost invariant = { λ v. (length v.marks.items ≡ length v.store) × IsBlank v.marks.items };
 }
 
-/// Sets the attribute of a setting; tells whether its value differs from the one before.
+/// Sets the attribute of a setting; returns whether its value differs from the one before.
 fn put(store: &mut Store, setting: &Setting) -> bool
     requires { IsFit store.old setting.now }
-    ensures differs { result ≡ not (is_same setting.now.value (attribute store.old setting.now.attr.0).held.value) }
-    ensures set { store.new ≡ slice_set store.old setting.now.attr.0 (with_value setting.now.value (attribute store.old setting.now.attr.0)) }
+    ensures differs { result ≡ not (is_same setting.now.value
+        (attribute store.old setting.now.attr.0).held.value) }
+    ensures set { store.new ≡ slice_set store.old setting.now.attr.0 (with_value setting.now.value
+        (attribute store.old setting.now.attr.0)) }
 {
     match store.set(setting.attr, &setting.value, false) {
         Ok(changed) => changed.differs,
@@ -58,8 +61,10 @@ fn set_noted(store: &mut Store, model: &Model, setting: &Setting, changes: &mut 
     requires fit { IsFit store.old setting.now }
     requires flags { length store.old ≡ length (attributes model.now) }
     requires room { vec_len changes.old < vec_capacity changes.old }
-    ensures set { store.new ≡ slice_set store.old setting.now.attr.0 (with_value setting.now.value (attribute store.old setting.now.attr.0)) }
-    ensures noted { changes.new.items ≡ changes.old.items ++ change_from model.now store.old setting.now.attr.0 setting.now.value ∷ [] }
+    ensures set { store.new ≡ slice_set store.old setting.now.attr.0 (with_value setting.now.value
+        (attribute store.old setting.now.attr.0)) }
+    ensures noted { changes.new.items ≡ changes.old.items
+        ++ change_from model.now store.old setting.now.attr.0 setting.now.value ∷ [] }
     ensures room { vec_capacity changes.old ≤ vec_capacity changes.new }
 {
     let flags = model.flags(setting.attr);
@@ -129,13 +134,15 @@ pub(crate) fn unmark(marks: &mut [bool], changes: &[Change])
 }
 
 impl Values {
-    ghost use Rattle.std.specs.Prelude.{◌≡◌, ◌≤◌, ◌<◌, ◌∷◌, [], ℕ, true, length, slice_set, vec_capacity, IfOk, OnOk, OnErr};
+    ghost use Rattle.std.specs.Prelude.{◌≡◌, ◌≤◌, ◌<◌, ◌∷◌, [], ℕ, true, length, slice_set};
+    ghost use Rattle.std.specs.Prelude.{vec_capacity, IfOk, OnOk, OnErr};
     ghost use Rattle.std.specs.List.{All};
     ghost use Rattle.bay_model.specs.declared.flags.Change.{Change as ChangeValue};
     ghost use Rattle.bay_model.specs.Attributes.{attributes};
     ghost use Rattle.value_store.specs.Opened.{IsStorable, opened};
     ghost use Rattle.value_store.specs.Stored.{attribute, outcome, with_value};
-    ghost use Rattle.bay_values.specs.Changed.{change_from, last_set, without_change, AreMade, AreDistinct, AreFit};
+    ghost use Rattle.bay_values.specs.Changed.{change_from, last_set, without_change, AreMade};
+    ghost use Rattle.bay_values.specs.Changed.{AreDistinct, AreFit};
 
     /// The configured values.
     pub fn open(alloc: Global, config: &Config) -> Result<Values, AllocError>
@@ -155,13 +162,14 @@ impl Values {
     }
 
     /// Sets attributes as the process does, of one that is named twice the last time; adds to `changes` what became of
-    /// each, once. It takes no memory, since `changes` has room for as many as there are attributes.
+    /// each, once. It takes no memory, since `changes` has capacity for as many as there are attributes.
     pub fn set(&mut self, model: &Model, settings: &[Setting], changes: &mut Vec<Change>)
         requires fits { AreFit self.old settings.now }
         requires flags { length self.old ≡ length (attributes model.now) }
         requires empty { changes.old.items ≡ [] }
         requires room { length self.old ≤ vec_capacity changes.old }
-        ensures set { (x : ℕ) → attribute self.new x ≡ last_set settings.now x (attribute self.old x) }
+        ensures set { (x : ℕ) → attribute self.new x ≡ last_set settings.now x
+            (attribute self.old x) }
         ensures count { length self.new ≡ length self.old }
         ensures changes { AreMade model.now self.old settings.now changes.new.items }
         ensures once { AreDistinct changes.new.items }
@@ -178,7 +186,7 @@ impl Values {
         unmark(self.marks.as_mut_slice(), changes.as_slice());
     }
 
-    /// Sets an attribute as a client does; adds to `changes` what became of it. It takes no memory, since `changes` has room.
+    /// Sets an attribute as a client does; adds to `changes` what became of it. It takes no memory, since `changes` has capacity.
     ///
     /// Refuses, in this order, a value of another kind, a write of what clients may not write, and a value out of the type's range
     /// or above its greatest length. A refusal leaves all as it was.
@@ -193,9 +201,12 @@ impl Values {
         requires flags { length self.old ≡ length (attributes model.now) }
         requires empty { changes.old.items ≡ [] }
         requires room { 0 < vec_capacity changes.old }
-        ensures answer { result ≡ without_change (outcome (attribute self.old attr.0) value.now true) }
-        ensures set { OnOk result (self.new ≡ slice_set self.old attr.0 (with_value value.now (attribute self.old attr.0))) }
-        ensures noted { OnOk result (changes.new.items ≡ change_from model.now self.old attr.0 value.now ∷ []) }
+        ensures answer { result ≡ without_change
+            (outcome (attribute self.old attr.0) value.now true) }
+        ensures set { OnOk result (self.new ≡ slice_set self.old attr.0
+            (with_value value.now (attribute self.old attr.0))) }
+        ensures noted { OnOk result (changes.new.items
+            ≡ change_from model.now self.old attr.0 value.now ∷ []) }
         ensures kept { OnErr result (self.new ≡ self.old) }
         ensures room { vec_capacity changes.old ≤ vec_capacity changes.new }
     {

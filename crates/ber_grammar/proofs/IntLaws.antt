@@ -16,7 +16,7 @@ use Rattle.ber_grammar.proofs.UintLaws.{uint_again, UintTells, uint_tells}
 lacks : (xs : List ℕ) (n : ℕ) → n + 1 + big_endian xs ≡ 256 ^ length xs → lack xs ≡ n
 lacks xs n h = omega arith
 
--- behind 255 stands what counts
+-- after 255 stands what counts
 pub behind_255 : (rest : List ℕ) (n : ℕ) → n + 1 + big_endian (255 ∷ rest) ≡ 256 ^ suc (length rest) → n + 1 + big_endian rest ≡ 256 ^ length rest
 behind_255 rest n h = omega (arith, h, big_endian-cons 255 rest, pow-suc 256 (length rest))
 

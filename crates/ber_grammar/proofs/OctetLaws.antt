@@ -55,7 +55,7 @@ IsRow-bytes octets (e ∷ es) fits (front, rest, s, p, row) =
 distribute : (a x p b : ℕ) → (a * 256 + x) * p + b ≡ a * (p * 256) + (x * p + b)
 distribute a x p b = omega arith
 
--- what stands in front counts by the octets behind it
+-- what stands in front counts by the octets after it
 pub big_endian-from : (a : ℕ) (xs : List ℕ) → fold (λ n octet. n * 256 + octet) a xs ≡ a * 256 ^ length xs + big_endian xs
 big_endian-from a [] = omega arith
 big_endian-from a (x ∷ xs) =

@@ -88,7 +88,7 @@ module _ {A F : Type 0} (read : Element → Result A F) (broken : BerFault → F
   AllRead (e ∷ es) [] = ⊥
   AllRead (e ∷ es) (v ∷ vs) = (read e ≡ Ok v) × AllRead es vs
 
-  -- behind whole elements that are read, the rest is no element, or the next is refused
+  -- after whole elements that are read, the rest is no element, or the next is refused
   abbrev pub StopsAt : List ℕ → F → Type 0
   StopsAt rest f = ((g : BerFault) × (f ≡ broken g) × (first_at rest ≡ Err g)) ⊎ ((e : Element) × (after : List ℕ) × (first_at rest ≡ Ok (e, after)) × (read e ≡ Err f))
 

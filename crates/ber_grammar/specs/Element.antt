@@ -45,9 +45,9 @@ abbrev pub IsRefused : List ℕ → BerFault → Type 0
 IsRefused input Short = (more : List ℕ) × (e : Element) × (0 < length more) × Spells (input ++ more) e
 -- a third octet of a tag says that more follow
 IsRefused input BadTag = (a b c : ℕ) × (rest : List ℕ) × (a % 32 ≡ 31) × (128 ≤ b) × (128 ≤ c) × (input ≡ a ∷ b ∷ c ∷ rest)
--- behind a tag stands 128
+-- after a tag stands 128
 IsRefused input Indefinite = (octets : List ℕ) × (tag : ℕ) × (rest : List ℕ) × IsTag octets tag × (input ≡ octets ++ 128 ∷ rest)
--- behind a tag stands an octet that says that more than four follow (four spell no length above 4294967295)
+-- after a tag stands an octet that says that more than four follow (four spell no length above 4294967295)
 IsRefused input LongLength = (octets : List ℕ) × (tag a : ℕ) × (rest : List ℕ) × IsTag octets tag × (132 < a) × (input ≡ octets ++ a ∷ rest)
 -- no other refusal is of an element
 IsRefused input BadNumber = ⊥

@@ -22,7 +22,7 @@ pub record Reads {X Y F : Type 0} (view : X → Y) (r : Result X F) (IsSpelled :
   pub only : (y : Y) → IsSpelled y → Gives view r (Ok y)
   pub refuses : (f : F) → IsRefused f → Gives view r (Err f)
 
--- The same of a reader that takes memory. Of an error that is no fault, as want of memory, nothing is said.
+-- The same of a reader that takes memory. Of an error that is no fault, as out of memory, nothing is said.
 abbrev pub GivesOrMemory : {X Y E F : Type 0} → (E → Option F) → (X → Y) → Result X E → Result Y F → Type 0
 GivesOrMemory fault_of view (Ok x) read = read ≡ Ok (view x)
 GivesOrMemory fault_of view (Err e) read = IfSome (fault_of e) (λ f. read ≡ Err f)

@@ -1,6 +1,7 @@
 //! The content of a bit string, in place.
 
-ghost use Rattle.std.specs.Prelude.{◌≡◌, ◌<◌, ◌≤◌, ◌^◌, ◌-◌, ◌*◌, ◌/◌, ◌%◌, ◌==◌, ◌↔◌, length, min, slice_get, slice_index, IsTrue};
+ghost use Rattle.std.specs.Prelude.{◌≡◌, ◌<◌, ◌≤◌, ◌^◌, ◌-◌, ◌*◌, ◌/◌, ◌%◌, ◌==◌, ◌↔◌, length, min};
+ghost use Rattle.std.specs.Prelude.{slice_get, slice_index, IsTrue};
 ghost use Rattle.ber_grammar.specs.Reader.{Gives, Reads};
 ghost use Rattle.ber_grammar.specs.Content.{IsBits, IsBitsRefused, bits_of};
 ghost use Rattle.ber_grammar.specs.Reading.{bits_at};
@@ -119,7 +120,7 @@ impl<'a> BitView<'a> {
         self.octets.is_empty()
     }
 
-    /// The bit at `index`, from 0, or `None` behind the last.
+    /// The bit at `index`, from 0, or `None` after the last.
     pub fn get(&self, index: usize) -> Option<bool>
         ensures { result ≡ slice_get self.now index }
     {

@@ -2,7 +2,8 @@
 
 ghost use Rattle.std.specs.Prelude.{◌≡◌, ◌<◌, ◌^◌, ◌≤◌, ◌+◌, ℕ, List, length, pos, negsuc, IfOk};
 ghost use Rattle.ber_grammar.specs.Reader.{Gives, Reads};
-ghost use Rattle.ber_grammar.specs.Content.{IsText, IsTextRefused, IsUint, IsUintRefused, IsInt, IsIntRefused};
+ghost use Rattle.ber_grammar.specs.Content.{IsText, IsTextRefused, IsUint, IsUintRefused, IsInt};
+ghost use Rattle.ber_grammar.specs.Content.{IsIntRefused};
 ghost use Rattle.ber_grammar.specs.Octets.{big_endian};
 ghost use Rattle.ber_grammar.specs.Place.{IsSliceAt};
 ghost use Rattle.ber_grammar.specs.Reading.{lack, positive, negative, uint_at, int_at, text_at};

@@ -4,7 +4,8 @@ ghost use Rattle.std.specs.Prelude.{◌≡◌, ℕ, ◌+◌, ◌<◌, ◌^◌, �
 ghost use Rattle.ber_grammar.specs.Octets.{big_endian};
 ghost use Rattle.ber_grammar.specs.Element.{Element, Begins, IsRefused};
 ghost use Rattle.ber_grammar.specs.Reader.{Gives, Reads};
-ghost use Rattle.ber_grammar.specs.Reading.{tag_at, second_at, third_at, length_at, number_at, first_at};
+ghost use Rattle.ber_grammar.specs.Reading.{tag_at, second_at, third_at, length_at, number_at};
+ghost use Rattle.ber_grammar.specs.Reading.{first_at};
 ghost use Rattle.ber_grammar.specs.Place.{IsEndOf, IsSliceAt};
 ghost use Rattle.ber_view.specs.View.{element};
 
@@ -21,7 +22,7 @@ pub struct Tlv<'a> {
     pub content: &'a [u8],
 }
 
-/// The last octet of a tag behind two.
+/// The last octet of a tag after two.
 fn read_third(a: u8, b: u8, bytes: &[u8]) -> Result<(u32, &[u8]), BerFault>
     ensures exact { Gives (λ x. (x.0, x.1.now)) result (third_at a b bytes.now) }
     ensures place { IfOk result (λ x. IsEndOf x.1 bytes.entry) }
@@ -125,7 +126,8 @@ fn read_length(bytes: &[u8]) -> Result<(u32, &[u8]), BerFault>
 fn read_first(bytes: &[u8]) -> Result<(Tlv<'_>, &[u8]), BerFault>
     ensures exact { Gives (λ x. (element x.0, x.1.now)) result (first_at bytes.now) }
     ensures rest { IfOk result (λ x. IsEndOf x.1 bytes.entry) }
-    ensures content { IfOk result (λ x. (x.0.content.ref_ptr.0 ≡ bytes.entry.ref_ptr.0) × (x.0.content.ref_ptr.1 ≡ bytes.entry.ref_ptr.1 + x.0.head)) }
+    ensures content { IfOk result (λ x. (x.0.content.ref_ptr.0 ≡ bytes.entry.ref_ptr.0)
+        × (x.0.content.ref_ptr.1 ≡ bytes.entry.ref_ptr.1 + x.0.head)) }
 {
     let (tag, after) = read_tag(bytes)?;
     let (len, after) = read_length(after)?;
@@ -147,12 +149,14 @@ fn read_first(bytes: &[u8]) -> Result<(Tlv<'_>, &[u8]), BerFault>
 /// three octets.
 pub fn first(bytes: &[u8]) -> Result<(Tlv<'_>, &[u8]), BerFault>
     // An element where the input begins with one, else the refusal that the input earns.
-    ensures reads { Reads {Y = Element × List ℕ} (λ x. (element x.0, x.1.now)) result (λ y. Begins bytes.now y.0 y.1) (IsRefused bytes.now) }
+    ensures reads { Reads {Y = Element × List ℕ} (λ x. (element x.0, x.1.now)) result
+        (λ y. Begins bytes.now y.0 y.1) (IsRefused bytes.now) }
     ensures exact { Gives (λ x. (element x.0, x.1.now)) result (first_at bytes.now) }
     ensures shorter { IfOk result (λ x. length x.1.now < length bytes.now) }
     ensures bound { IfOk result (λ x. length x.0.content.now < 2 ^ 32) }
     // Both are slices of the input.
-    ensures places { IfOk result (λ x. IsSliceAt bytes.entry x.0.head x.0.content × IsSliceAt bytes.entry (x.0.head + length x.0.content.now) x.1) }
+    ensures places { IfOk result (λ x. IsSliceAt bytes.entry x.0.head x.0.content
+        × IsSliceAt bytes.entry (x.0.head + length x.0.content.now) x.1) }
 {
     read_first(bytes)
 }

@@ -2,7 +2,8 @@
 
 ghost use Rattle.std.specs.Prelude.{◌≡◌};
 ghost use Rattle.std.specs.Option.{option_map};
-ghost use Rattle.ber_grammar.specs.Fields.{fields_in, only_in, with_tag, only_with, first_with, field_with, whole_at, whole_in};
+ghost use Rattle.ber_grammar.specs.Fields.{fields_in, only_in, with_tag, only_with, first_with};
+ghost use Rattle.ber_grammar.specs.Fields.{field_with, whole_at, whole_in};
 ghost use Rattle.ber_grammar.specs.Place.{piece};
 ghost use Rattle.ber_view.specs.View.{element, spot};
 

@@ -189,6 +189,6 @@ written_more out grown all rest after o h some first behind e =
     let step : o ∷ packed after ≡ packed rest = rw (first, behind) (sym (packed-more rest some)) in
     ap (λ (x : List ℕ). x ++ packed after) e ∙ append_assoc out (o ∷ []) (packed after) ∙ ap (λ (x : List ℕ). out ++ x) step ∙ h
 
--- behind a head and one octet
+-- after a head and one octet
 pub kept_behind : {A : Type 0} (r : Result A AllocError) (old head grown mid new : List ℕ) (o : ℕ) → grown ≡ old ++ head → mid ≡ grown ++ o ∷ [] → OnErr r (take (length mid) new ≡ mid) → OnErr r (take (length old) new ≡ old)
 kept_behind r old head grown mid new o e f h = kept_on r old (head ++ o ∷ []) mid new (f ∙ ap (λ (x : List ℕ). x ++ o ∷ []) e ∙ append_assoc old head (o ∷ [])) h

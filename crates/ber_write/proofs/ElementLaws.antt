@@ -63,7 +63,7 @@ one_tag (a ∷ b ∷ []) t fits h = two a b t (fits 0) (omega (arith, h.0)) (ome
 one_tag (a ∷ b ∷ c ∷ []) t fits h = three a b c t (fits 0) (omega (arith, h.0)) (fits 1) (omega (arith, h.1)) (omega (arith, h.2)) h.3
 one_tag (a ∷ b ∷ c ∷ d ∷ more) t fits h = absurd h
 
--- the only length field of so many octets
+-- the only length field of n octets
 abbrev form : ℕ → ℕ → List ℕ
 form (suc zero) n = n ∷ []
 form (suc (suc zero)) n = 129 ∷ n ∷ []

@@ -11,7 +11,7 @@ weigh b weight = if b then weight else 0
 abbrev pub octet : Bool → Bool → Bool → Bool → Bool → Bool → Bool → Bool → ℕ
 octet a b c d e f g h = weigh a 128 + weigh b 64 + weigh c 32 + weigh d 16 + weigh e 8 + weigh f 4 + weigh g 2 + weigh h 1
 
--- eight bits an octet; behind the last bits stand 0s
+-- eight bits an octet; after the last bits stand 0s
 abbrev pub packed : List Bool → List ℕ
 packed [] = []
 packed (a ∷ []) = octet a false false false false false false false ∷ []
@@ -38,7 +38,7 @@ bit_or_zero bits place = unwrap_or (slice_get bits place) false
 abbrev pub first_octet : List Bool → ℕ
 first_octet bits = octet (bit_or_zero bits 0) (bit_or_zero bits 1) (bit_or_zero bits 2) (bit_or_zero bits 3) (bit_or_zero bits 4) (bit_or_zero bits 5) (bit_or_zero bits 6) (bit_or_zero bits 7)
 
--- the bits that the content has behind its own are 0
+-- the bits that the content has after its own are 0
 abbrev pub HasClearEnd : List ℕ → List Bool → Type 0
 HasClearEnd [] bits = ⊥
 HasClearEnd (unused ∷ octets) bits = flat_map octet_bits octets ≡ bits ++ replicate unused false

@@ -23,7 +23,7 @@ head_octets tag len = tag_octets tag ++ length_octets len
 abbrev pub octets_of : ℕ → List ℕ → List ℕ
 octets_of tag content = tag_octets tag ++ (length_octets (length content) ++ content)
 
--- how many they are, under a tag of one octet, with a content of so many
+-- how many they are, under a tag of one octet, with a content of that many
 unfoldable pub element_size : ℕ → ℕ
 element_size n = 1 + (length (length_octets n) + n)
 

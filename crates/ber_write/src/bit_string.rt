@@ -1,8 +1,10 @@
 //! The element of a bit string.
 
-ghost use Rattle.std.specs.Prelude.{◌≡◌, ◌+◌, ◌-◌, ◌*◌, ◌/◌, ◌<◌, ◌≤◌, ◌^◌, ◌++◌, length, take, drop, OnOk, OnErr};
+ghost use Rattle.std.specs.Prelude.{◌≡◌, ◌+◌, ◌-◌, ◌*◌, ◌/◌, ◌<◌, ◌≤◌, ◌^◌, ◌++◌, length, take};
+ghost use Rattle.std.specs.Prelude.{drop, OnOk, OnErr};
 ghost use Rattle.ber_write.specs.Minimal.{octets_of, CanBeTag};
-ghost use Rattle.ber_write.specs.BitString.{weigh, bit_or_zero, first_octet, packed, unused_of, bit_octets};
+ghost use Rattle.ber_write.specs.BitString.{weigh, bit_or_zero, first_octet, packed, unused_of};
+ghost use Rattle.ber_write.specs.BitString.{bit_octets};
 
 use crate::element::put_head;
 use std::alloc::AllocError;
@@ -32,7 +34,7 @@ fn first_octet_of(bits: &[bool]) -> u8
         + weight_at(bits, 7, 1)
 }
 
-/// The bits behind the first eight.
+/// The bits after the first eight.
 fn behind_eight(bits: &[bool]) -> &[bool]
     ensures { result.now ≡ drop 8 bits.now }
 {
@@ -72,7 +74,8 @@ pub fn bits_len(value: &[bool]) -> usize
 fn put_bit_parts(out: &mut Vec<u8>, tag: u32, value: &[bool]) -> Result<(), AllocError>
     requires tag { CanBeTag tag }
     requires len { length value.now ≤ 8 * (2 ^ 32 - 2) }
-    ensures ok { OnOk result (out.new.items ≡ out.old.items ++ octets_of tag (bit_octets value.now)) }
+    ensures ok { OnOk result (out.new.items ≡ out.old.items ++ octets_of tag
+        (bit_octets value.now)) }
     ensures err { OnErr result (take (length out.old.items) out.new.items ≡ out.old.items) }
 {
     put_head(out, tag, bits_len(value) as u32)?;
@@ -88,7 +91,8 @@ fn put_bit_parts(out: &mut Vec<u8>, tag: u32, value: &[bool]) -> Result<(), Allo
 pub fn put_bits(out: &mut Vec<u8>, tag: u32, value: &[bool]) -> Result<(), AllocError>
     requires tag { CanBeTag tag }
     requires len { length value.now ≤ 8 * (2 ^ 32 - 2) }
-    ensures ok { OnOk result (out.new.items ≡ out.old.items ++ octets_of tag (bit_octets value.now)) }
+    ensures ok { OnOk result (out.new.items ≡ out.old.items ++ octets_of tag
+        (bit_octets value.now)) }
     ensures err { OnErr result (out.new.items ≡ out.old.items) }
 {
     let before = out.len();

@@ -3,12 +3,13 @@
 ghost use Rattle.std.specs.Prelude.{◌≡◌, ◌<◌, ◌≤◌, ◌^◌, ◌∷◌, ◌++◌, length, take, IfOk, OnOk, OnErr};
 ghost use Rattle.std.specs.Int.{to_be_bytes, w32};
 ghost use Rattle.sv_base.specs.Data.{length_field};
-ghost use Rattle.ber_write.specs.Minimal.{tag_octets, length_octets, head_octets, octets_of, CanBeTag};
+ghost use Rattle.ber_write.specs.Minimal.{tag_octets, length_octets, head_octets, octets_of};
+ghost use Rattle.ber_write.specs.Minimal.{CanBeTag};
 
 use data_lengths::without_zeros;
 use std::alloc::{AllocError, Global};
 
-/// How the length of a content is spelled whose number has these four octets: the first octet, and those behind it, none to
+/// How the length of a content is spelled whose number has these four octets: the first octet, and those after it, none to
 /// four (X.690, 8.1.3).
 pub fn length_parts(content: u32, octets: &[u8; 4]) -> (u8, &[u8])
     requires { octets.now ≡ to_be_bytes w32 content }

@@ -1,6 +1,6 @@
-//! BER elements (ITU-T X.690), written in their one minimal spelling behind the octets that are there.
+//! BER elements (ITU-T X.690), written in their one minimal spelling after the octets that are there.
 //!
-//! The only error is want of memory, and then `out` is as it was. The caller sees to it that a tag is one that
+//! The only error is out of memory, and then `out` is as it was. The caller sees to it that a tag is one that
 //! `ber_view::first` can give, and that no content is above 4294967295 octets.
 #![tactic(auto)]
 

@@ -121,7 +121,7 @@ module _ (c : Config) (stored : List Stored) (past : Past) (ns : List ℕ) (serv
   pub note-readable : (reasons : ℕ → Reasons) → All IsMemberKept (noted (configured_model c) reasons past 1 ns)
   note-readable reasons = λ j d below. member-kept (slice_index_or (noted (configured_model c) reasons past 1 ns) j d) (noted-of (configured_model c) reasons past 1 ns j d below)
 
--- ---- room for it
+-- ---- memory for it
 
 pub all-writable : (c : Config) (stored : List Stored) (ns : List ℕ) → IsServable c → AreHeld c stored → All (IsMember c) ns → All (IsWritable stored) (node_shapes c ns)
 all-writable c stored [] served held are = All-nil (IsWritable stored)

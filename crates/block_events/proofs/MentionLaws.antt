@@ -13,7 +13,7 @@ use Rattle.value_store.specs.Stored.{Stored}
 use Rattle.report_block.specs.EntryOctets.{IsWritable, IsKeepable}
 use Rattle.report_block.specs.Events.{AreInOrder}
 
--- numbered from i on, so many
+-- numbered from i on, that many
 abbrev IsNumbered : ℕ → ℕ → Mention → Type 0
 IsNumbered i count m = (i ≤ m.member.0) × (m.member.0 < i + count)
 

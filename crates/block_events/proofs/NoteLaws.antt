@@ -68,7 +68,7 @@ module _ (rows : List NodeRow) (book : Book) where
     lent-stays : (ms : List Mention) (p : ReportBlock) → IsLent rows book p → IsLent rows book (noting ms p)
     lent-stays ms p is = record { set = is.set; there = is.there }
 
-    -- and the room of what it gathers
+    -- and the memory of what it gathers
     pub room-stays-after : (ms : List Mention) (p : ReportBlock) → (noting ms p).window.members ≡ p.window.members
     room-stays-after [] p = refl
     room-stays-after (m ∷ ms) p = refl

@@ -26,7 +26,7 @@ after_event rows book stored changes moment step part = after_noting moment step
 abbrev pub after_events : List NodeRow → Book → List Stored → List Change → ℕ → ℕ → List ReportBlock → List ReportBlock
 after_events rows book stored changes moment step parts = map (after_event rows book stored changes moment step) parts
 
--- the members of the data set are there and few, the Data of each can be written, and there is room to gather them
+-- the members of the data set are there and few, the Data of each can be written, and there is memory to gather them
 pub record IsReady (rows : List NodeRow) (book : Book) (stored : List Stored) (part : ReportBlock) : Type 0 where
   pub lent : IsLent rows book part
   pub few : length (members_in rows book part) ≤ 256

@@ -22,8 +22,10 @@ use touch_index::Notes;
 /// A block took in an event: by now it may have something else due, if it gathers its events.
 fn keep_due(dues: &mut Dues, b: usize, part: &ReportBlock, moment: Moment)
     requires { b < length dues.old }
-    ensures { (parts : List PartValue) (was : PartValue) → slice_get parts b ≡ Some was → part.now.block ≡ was.block → part.now.origin ≡ was.origin
-        → AreQuietUntil moment dues.old parts → AreQuietUntil moment dues.new (slice_set parts b part.now) }
+    ensures { (parts : List PartValue) (was : PartValue) → slice_get parts b ≡ Some was
+        → part.now.block ≡ was.block → part.now.origin ≡ was.origin
+        → AreQuietUntil moment dues.old parts
+        → AreQuietUntil moment dues.new (slice_set parts b part.now) }
 {
     if part.gathers() {
         dues.put(b, part.due_at(moment));
@@ -43,14 +45,16 @@ fn keep_all(
 )
     requires count { length notes.old.notes ≡ length parts.old.items }
     requires notes { (b : ℕ) (part : PartValue) → slice_get parts.old.items b ≡ Some part
-        → IsNoteOf source.now.rows.now source.now.book.now source.now.store.now part (note_at notes.old.notes b).items }
+        → IsNoteOf source.now.rows.now source.now.book.now source.now.store.now part
+        (note_at notes.old.notes b).items }
     requires quiet { AreQuietUntil moment dues.old parts.old.items }
     requires events { HasRoom 256 events.old }
     requires entry { octets.old.room ≡ 129024 }
     ensures parts { length parts.new.items ≡ length parts.old.items }
     ensures kept { (b : ℕ) (part : PartValue) → slice_get parts.old.items b ≡ Some part
         → slice_get parts.new.items b ≡ Some (after_noting moment step
-        (pieces_of source.now.store.now (members_in source.now.rows.now source.now.book.now part) (note_at notes.old.notes b).items) part) }
+        (pieces_of source.now.store.now (members_in source.now.rows.now source.now.book.now part)
+        (note_at notes.old.notes b).items) part) }
     ensures quiet { AreQuietUntil moment dues.new parts.new.items }
     ensures empty { AreEmpty notes.new.notes }
     ensures count { length notes.new.notes ≡ length notes.old.notes }
@@ -81,14 +85,19 @@ pub fn event_all(
     events: &mut EventRoom,
     octets: &mut Fixed,
 )
-    requires ready { AreReady source.now.rows.now source.now.book.now source.now.store.now parts.old.items }
-    requires watching { IsWatching source.now.rows.now source.now.book.now (length source.now.store.now) parts.old.items watch.old }
-    requires attrs { All (λ (ch : ChangeValue). ch.attr.0 < length source.now.store.now) changes.now }
+    requires ready { AreReady source.now.rows.now source.now.book.now source.now.store.now
+        parts.old.items }
+    requires watching { IsWatching source.now.rows.now source.now.book.now
+        (length source.now.store.now) parts.old.items watch.old }
+    requires attrs { All (λ (ch : ChangeValue). ch.attr.0
+        < length source.now.store.now) changes.now }
     requires once { AreOnce changes.now }
     requires quiet { AreQuietUntil moment dues.old parts.old.items }
     requires events { HasRoom 256 events.old }
     requires entry { octets.old.room ≡ 129024 }
-    ensures parts { parts.new.items ≡ after_events source.now.rows.now source.now.book.now source.now.store.now changes.now moment step parts.old.items }
+    ensures parts { parts.new.items
+        ≡ after_events source.now.rows.now source.now.book.now source.now.store.now changes.now
+        moment step parts.old.items }
     ensures quiet { AreQuietUntil moment dues.new parts.new.items }
     ensures watch { watch.new ≡ record watch.old { notes = watch.new.notes } }
     ensures blank { AreBlank (length parts.old.items) watch.new.notes }

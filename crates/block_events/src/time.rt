@@ -25,7 +25,8 @@ fn pass_one(
     requires ready { IsReady source.now.rows.now source.now.book.now source.now.store.now part.old }
     requires quiet { IsQuietUntil was due part.old }
     requires entry { octets.old.room ≡ 129024 }
-    ensures part { part.new ≡ arrived_part source.now.rows.now source.now.book.now source.now.store.now was now step part.old }
+    ensures part { part.new ≡ arrived_part source.now.rows.now source.now.book.now
+        source.now.store.now was now step part.old }
     ensures quiet { IsQuietUntil now result part.new }
     ensures entry { octets.new.room ≡ 129024 }
 {
@@ -49,10 +50,13 @@ fn pass_all(
     octets: &mut Fixed,
 )
     requires later { was ≤ now }
-    requires ready { AreReady source.now.rows.now source.now.book.now source.now.store.now parts.old.items }
+    requires ready { AreReady source.now.rows.now source.now.book.now source.now.store.now
+        parts.old.items }
     requires quiet { AreQuietUntil was dues.old parts.old.items }
     requires entry { octets.old.room ≡ 129024 }
-    ensures parts { parts.new.items ≡ arrived_all source.now.rows.now source.now.book.now source.now.store.now was now step parts.old.items }
+    ensures parts { parts.new.items
+        ≡ arrived_all source.now.rows.now source.now.book.now source.now.store.now was now step
+        parts.old.items }
     ensures quiet { AreQuietUntil now dues.new parts.new.items }
     ensures entry { octets.new.room ≡ 129024 }
 {
@@ -78,10 +82,13 @@ pub fn pass_due(
     octets: &mut Fixed,
 )
     requires later { was ≤ now }
-    requires ready { AreReady source.now.rows.now source.now.book.now source.now.store.now parts.old.items }
+    requires ready { AreReady source.now.rows.now source.now.book.now source.now.store.now
+        parts.old.items }
     requires quiet { AreQuietUntil was dues.old parts.old.items }
     requires entry { octets.old.room ≡ 129024 }
-    ensures parts { parts.new.items ≡ arrived_all source.now.rows.now source.now.book.now source.now.store.now was now step parts.old.items }
+    ensures parts { parts.new.items
+        ≡ arrived_all source.now.rows.now source.now.book.now source.now.store.now was now step
+        parts.old.items }
     ensures quiet { AreQuietUntil now dues.new parts.new.items }
     ensures entry { octets.new.room ≡ 129024 }
 {

@@ -24,7 +24,7 @@ use Rattle.block_reports.specs.Again.{IsOneElement, AreKept, reasons_in, referen
 use Rattle.block_reports.specs.Blanks.{Row, IsShortSet, AreFew}
 use Rattle.report_block.specs.Standing.{IsMemberKept, AreKeptMembers}
 
--- so many members are read, and the octets of the others are left
+-- n members are read, and the octets of the others are left
 pub record Halfway (c : Config) (shapes : List MemberShape) (ks : List Kept) (items : List Member) (rest : List ℕ) : Type 0 where
   pub read : List Kept
   pub unread : List Kept
@@ -133,9 +133,9 @@ all_read c shapes ks items rest read h reads none = from h.read h.unread h.parts
     from done [] parts made left = made ∙ ap (reported c shapes) (sym (append-nil done) ∙ sym parts)
     from done (k ∷ unread) parts made left = cc (none, front_left rest k unread read left reads)
 
--- ---- members that are put into room that is there
+-- ---- members that are put into memory that is there
 
--- so many are read, and there is room for the others
+-- that many are read, and there is capacity for the others
 pub record Filling (c : Config) (shapes : List MemberShape) (ks : List Kept) (row : Row) (rest : List ℕ) : Type 0 where
   pub half : Halfway c shapes ks row.items rest
   pub sound : AreKeptMembers half.unread
@@ -174,7 +174,7 @@ fill_one c shapes ks row new rest after f m h reads shorter is put = from h.half
 
 -- ---- how long octets are
 
--- of so many members with Data of at most 500 octets
+-- of n members with Data of at most 500 octets
 kept_within : (ks : List Kept) → AreKeptMembers ks → length (flat_map kept_octets_of ks) ≤ 504 * length ks
 kept_within [] sound = omega arith
 kept_within (k ∷ ks) sound =

@@ -15,7 +15,7 @@ use Rattle.bay_model.specs.Retained.{kept_octets_of}
 use Rattle.set_view.specs.Shapes.{node_numbers}
 use Rattle.block_reports.specs.declared.members.Front.{Front}
 
--- one element, and nothing behind it
+-- one element, and nothing after it
 abbrev pub IsOneElement : List ℕ → Type 0
 IsOneElement octets = (e : Element) × Spells octets e
 
@@ -40,7 +40,7 @@ reference_by c ns number = option_map_or (λ n. reference_at c n) (slice_get ns 
 abbrev pub reported : Config → List MemberShape → List Kept → List Member
 reported c shapes ks = map (member_of (configured_model c) (node_numbers shapes)) ks
 
--- what stands in front of kept octets: a kept member, and the octets behind it
+-- what stands in front of kept octets: a kept member, and the octets after it
 abbrev pub front_member : Front → Kept
 front_member f = record { number = f.number; reasons = f.reasons; octets = f.octets.now }
 

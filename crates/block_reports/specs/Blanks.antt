@@ -1,4 +1,4 @@
--- A report in room that was made before, so that to fill it takes no memory (IEC 61850-7-2, the Report service).
+-- A report in memory that was allocated before, so that to fill it takes no memory (IEC 61850-7-2, the Report service).
 use Rattle.std.specs.Prelude.{◌≤◌, ℕ, List, [], ◌∷◌, length, max, vec_capacity}
 use Rattle.std.specs.List.{All}
 use Rattle.bay_model.specs.declared.report.Member.{Member}
@@ -12,11 +12,11 @@ use Rattle.block_reports.specs.declared.member_rooms.MemberRoom.{MemberRoom}
 use Rattle.block_reports.specs.Again.{AreKept}
 use Rattle.report_block.specs.Standing.{AreKeptMembers}
 
--- room for the reference of a member and for its Data
+-- memory for the reference of a member and for its Data
 abbrev pub IsRoom : MemberRoom → Type 0
 IsRoom r = (129 ≤ vec_capacity r.reference) × (500 ≤ vec_capacity r.octets)
 
--- the members so far, and how many more have room
+-- the members so far, and how many more have capacity
 pub record Row : Type 0 where
   pub items : List Member
   pub left : ℕ
@@ -26,7 +26,7 @@ pub record Blank : Type 0 where
   pub texts : ℕ
   pub members : ℕ
 
--- the texts of a block's reports have at most so many octets each
+-- the texts of a block's reports have at most n octets each
 abbrev pub AreShortTexts : ℕ → ReportBlock → Type 0
 AreShortTexts most part = (length (report_id part.block.options.rpt_id part.block.reference) ≤ most) × (length part.block.options.dat_set ≤ most)
 
@@ -42,7 +42,7 @@ AreShort c nodes = All (λ n. length (reference_at c n) ≤ 129) nodes
 abbrev pub IsShortSet : Model → List MemberShape → Type 0
 IsShortSet c shapes = AreShort c (node_numbers shapes)
 
--- the octets are those that are kept of these members, which are at most so many, each with one Data of at most 500 octets
+-- the octets are those that are kept of these members, which are at most that many, each with one Data of at most 500 octets
 pub record AreFew (most : ℕ) (octets : List ℕ) (ks : List Kept) : Type 0 where
   pub kept : AreKept octets ks
   pub sound : AreKeptMembers ks

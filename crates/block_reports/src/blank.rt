@@ -1,4 +1,4 @@
-//! A report in room that was made before, so that to fill it takes no memory (IEC 61850-7-2, the Report service).
+//! A report in memory that was allocated before, so that to fill it takes no memory (IEC 61850-7-2, the Report service).
 
 ghost use Rattle.std.specs.List.{All};
 ghost use Rattle.std.specs.Prelude.{◌≡◌, ◌≤◌, ◌+◌, ◌*◌, ◌++◌, [], List, length, vec_capacity};
@@ -31,8 +31,8 @@ pub fn longest_text(parts: &[ReportBlock]) -> usize
     most
 }
 
-/// The members of the report of an entry of a data set, in room that is there, and the room that is left. It takes no memory. Of an
-/// entry of more members than have room no more is said than that no room is lost.
+/// The members of the report of an entry of a data set, in memory that is there, and the memory that is left. It takes no memory. Of an
+/// entry of more members than fit no more is said than that no buffer is lost.
 fn members_in(
     row: Row,
     room: Vec<u8>,
@@ -44,7 +44,9 @@ fn members_in(
     requires room { 504 * row.left ≤ vec_capacity room }
     requires nodes { AreNodes model.now set.now }
     requires short { IsShortSet (configured_model model.now) set.now }
-    ensures members { (ks : List Kept) → AreFew row.left (entry.now.first.now ++ entry.now.second.now) ks → result.0 ≡ reported model.now set.now ks }
+    ensures members { (ks : List Kept)
+        → AreFew row.left (entry.now.first.now ++ entry.now.second.now) ks
+        → result.0 ≡ reported model.now set.now ks }
     ensures rooms { length result.0 + result.1 ≡ row.left }
 {
     let joined = joined_in(room, entry);
@@ -52,7 +54,7 @@ fn members_in(
     (members, Rooms { free, joined })
 }
 
-/// Room for a report: its texts, its members, and the octets of its entry in one row.
+/// Memory for a report: its texts, its members, and the octets of its entry in one row.
 #[derive(Drop)]
 pub struct Blank {
     texts: usize,
@@ -71,7 +73,8 @@ impl std::marker::Model for Blank {
 
     ghost view = { λ b. record { texts = b.texts; members = b.row.left } };
 
-    ghost invariant = { λ b. (b.texts ≤ vec_capacity b.rpt_id) × (10 ≤ vec_capacity b.opt_flds) × (b.texts ≤ vec_capacity b.dat_set)
+    ghost invariant = { λ b. (b.texts ≤ vec_capacity b.rpt_id) × (10 ≤ vec_capacity b.opt_flds)
+        × (b.texts ≤ vec_capacity b.dat_set)
         × (b.row.items ≡ []) × (504 * b.row.left ≤ vec_capacity b.joined) };
 }
 
@@ -84,8 +87,8 @@ impl Blank {
     ghost use Rattle.report_block.specs.Offers.{offered};
     ghost use Rattle.block_reports.specs.Reporting.{report_by};
 
-    /// Room for a report whose RptID and DatSet have at most `texts` octets each, of at most `most` members, 0 to 256, each with a
-    /// reference of at most 129 octets and Data of at most 500. It is made of rooms and of the memory of another report; only what
+    /// Memory for a report whose RptID and DatSet have at most `texts` octets each, of at most `most` members, 0 to 256, each with a
+    /// reference of at most 129 octets and Data of at most 500. It is made of buffers and of the memory of another report; only what
     /// these lack is taken.
     pub fn open(
         alloc: Global,
@@ -108,7 +111,7 @@ impl Blank {
         })
     }
 
-    /// Its memory, where no report is to be filled: that of a report with nothing in it, and the rooms. It takes no memory.
+    /// Its memory, where no report is to be filled: that of a report with nothing in it, and the buffers. It takes no memory.
     pub fn unused(self, alloc: Global) -> (Report, Rooms)
         ensures { result.1 ≡ self.members }
     {
@@ -122,8 +125,8 @@ impl Blank {
         (report, Rooms { free, joined })
     }
 
-    /// The report of an offer by its block and its data set, whose nodes are the model's, and the room that is left. It takes no
-    /// memory. Of an entry of more members than have room no more is said than that no room is lost.
+    /// The report of an offer by its block and its data set, whose nodes are the model's, and the memory that is left. It takes no
+    /// memory. Of an entry of more members than fit no more is said than that no buffer is lost.
     pub fn filled(
         self,
         model: &Model,
@@ -137,7 +140,8 @@ impl Blank {
         requires short { IsShortSet (configured_model model.now) set.now }
         requires texts { AreShortTexts self.texts part.now }
         ensures report { (ks : List Kept) → AreFew self.members (offered offer.now).entry.kept ks
-            → result.0 ≡ report_by (configured_model model.now) set.now part.now (offered offer.now) ks }
+            → result.0 ≡ report_by (configured_model model.now) set.now part.now
+            (offered offer.now) ks }
         ensures rooms { length result.0.members + result.1 ≡ self.members }
     {
         let texts = Texts {

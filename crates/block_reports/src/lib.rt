@@ -1,5 +1,5 @@
 //! The reports of a buffered report control block (IEC 61850-7-2, the Report service): made of what the block keeps of an entry, in
-//! the memory of another report or in room that was made before.
+//! the memory of another report or in memory that was allocated before.
 #![tactic(auto)]
 
 // the members that a report has of an entry's octets, and the report whose memory is used again
@@ -7,7 +7,7 @@ mod members;
 mod reports;
 mod spare;
 
-// a report in room that was made before
+// a report in memory that was allocated before
 mod blank;
 mod member_rooms;
 

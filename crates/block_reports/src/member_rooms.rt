@@ -1,4 +1,4 @@
-//! The members of a report, in room that was made before.
+//! The members of a report, in memory that was allocated before.
 
 ghost use Rattle.std.specs.Prelude.{◌≡◌, ◌≤◌, length, vec_capacity, IfOk};
 ghost use Rattle.std.specs.List.{All};
@@ -16,14 +16,14 @@ use set_view::SetView;
 use std::alloc::{AllocError, Global};
 use sv_base::{MemberNo, Octs};
 
-/// Room for the reference of a member and for its Data.
+/// Memory for the reference of a member and for its Data.
 #[derive(Drop)]
 pub(crate) struct MemberRoom {
     pub(crate) reference: Vec<u8>,
     pub(crate) octets: Vec<u8>,
 }
 
-/// Room for one member, in that of another.
+/// Memory for one member, in that of another.
 fn room_of(spare: Member) -> Result<MemberRoom, AllocError>
     ensures { IfOk result IsRoom }
 {
@@ -33,7 +33,7 @@ fn room_of(spare: Member) -> Result<MemberRoom, AllocError>
     })
 }
 
-/// Room for the members of reports, of which no report makes use by now, and for the octets of an entry in one row: what is kept
+/// Memory for the members of reports, of which no report makes use by now, and for the octets of an entry in one row: what is kept
 /// of one report for the next. Contracts see for how many members.
 #[derive(Drop)]
 pub struct Rooms {
@@ -56,7 +56,7 @@ impl std::marker::Model for Rooms {
 impl Rooms {
     ghost use Rattle.std.specs.Prelude.{◌≡◌};
 
-    /// Room for no member. It takes no memory.
+    /// Memory for no member. It takes no memory.
     pub fn none(alloc: Global) -> Rooms
         ensures { result ≡ 0 }
     {
@@ -67,7 +67,7 @@ impl Rooms {
     }
 }
 
-/// So many rooms: these as far as they go, then those of these members, then new ones.
+/// This many buffers: these as far as they go, then those of these members, then new ones.
 fn rooms_of(
     alloc: Global,
     free: Vec<MemberRoom>,
@@ -91,7 +91,7 @@ fn rooms_of(
     Ok(rooms)
 }
 
-/// The reference of a member of a data set, by its number from 1, in room that is there. It takes no memory.
+/// The reference of a member of a data set, by its number from 1, in memory that is there. It takes no memory.
 fn member_reference_in(room: Vec<u8>, model: &Model, set: &SetView<'_>, number: u32) -> Octs
     requires nodes { AreNodes model.now set.now }
     requires short { IsShortSet (configured_model model.now) set.now }
@@ -104,13 +104,14 @@ fn member_reference_in(room: Vec<u8>, model: &Model, set: &SetView<'_>, number: 
     }
 }
 
-/// A member of a report, in room that is there. It takes no memory.
+/// A member of a report, in memory that is there. It takes no memory.
 fn member_in(room: MemberRoom, model: &Model, set: &SetView<'_>, front: &Front<'_>) -> Member
     requires room { IsRoom room }
     requires nodes { AreNodes model.now set.now }
     requires short { IsShortSet (configured_model model.now) set.now }
     requires data { length front.now.octets.now ≤ 500 }
-    ensures { result ≡ member_of (configured_model model.now) (node_numbers set.now) (front_member front.now) }
+    ensures { result ≡ member_of (configured_model model.now) (node_numbers set.now)
+        (front_member front.now) }
 {
     Member {
         number: MemberNo(front.number),
@@ -120,7 +121,7 @@ fn member_in(room: MemberRoom, model: &Model, set: &SetView<'_>, front: &Front<'
     }
 }
 
-/// The members of a report that is being written, and room for more.
+/// The members of a report that is being written, and memory for more.
 #[derive(Drop)]
 pub(crate) struct Row {
     items: Vec<Member>,
@@ -136,7 +137,8 @@ impl std::marker::Model for Row {
 
     ghost view = { λ r. record { items = r.items.items; left = length r.rooms.items } };
 
-    ghost invariant = { λ r. All IsRoom r.rooms.items × (vec_len r.items + length r.rooms.items ≤ vec_capacity r.items) };
+    ghost invariant = { λ r. All IsRoom r.rooms.items
+        × (vec_len r.items + length r.rooms.items ≤ vec_capacity r.items) };
 }
 
 impl Row {
@@ -149,7 +151,7 @@ impl Row {
     ghost use Rattle.block_reports.specs.Again.{AreNodes, front_member, reported};
     ghost use Rattle.block_reports.specs.Blanks.{IsRoom, IsShortSet, AreFew};
 
-    /// Room for so many members, made of rooms and of the memory of other members as far as they go.
+    /// Memory for n members, made of buffers and of the memory of other members as far as they go.
     pub(crate) fn open(
         alloc: Global,
         free: Vec<MemberRoom>,
@@ -165,15 +167,17 @@ impl Row {
         Ok(Row { items, rooms })
     }
 
-    /// Adds a member, where there is room for one more and for its Data. It takes no memory.
+    /// Adds a member, where there is capacity for one more and for its Data. It takes no memory.
     fn put(&mut self, model: &Model, set: &SetView<'_>, front: &Front<'_>)
         requires nodes { AreNodes model.now set.now }
         requires short { IsShortSet (configured_model model.now) set.now }
         ensures put { 0 < self.old.left → length front.now.octets.now ≤ 500 → self.new ≡ record {
-          items = self.old.items ++ member_of (configured_model model.now) (node_numbers set.now) (front_member front.now) ∷ [];
+          items = self.old.items ++ member_of (configured_model model.now) (node_numbers set.now)
+              (front_member front.now) ∷ [];
           left = self.old.left - 1;
         } }
-        ensures kept { length self.new.items + self.new.left ≡ length self.old.items + self.old.left }
+        ensures kept { length self.new.items + self.new.left
+            ≡ length self.old.items + self.old.left }
     {
         if front.octets.len() > 500 {
             return;
@@ -183,7 +187,7 @@ impl Row {
         }
     }
 
-    /// The members, and the rooms that are left.
+    /// The members, and the buffers that are left.
     pub(crate) fn into_parts(self) -> (Members, Vec<MemberRoom>)
         ensures members { result.0 ≡ self.items }
         ensures rooms { All IsRoom result.1.items }
@@ -193,8 +197,8 @@ impl Row {
     }
 
     /// The members of a report, from the octets that a block keeps of an entry of a data set whose nodes are the model's, and the
-    /// rooms that are left. It takes no memory. Of octets that are not kept ones, or of more members than have room, no more is said
-    /// than that no room is lost.
+    /// buffers that are left. It takes no memory. Of octets that are not kept ones, or of more members than fit, no more is said
+    /// than that no buffer is lost.
     pub(crate) fn filled(
         self,
         model: &Model,
@@ -204,7 +208,8 @@ impl Row {
         requires empty { self.items ≡ [] }
         requires nodes { AreNodes model.now set.now }
         requires short { IsShortSet (configured_model model.now) set.now }
-        ensures members { (ks : List Kept) → AreFew self.left octets.now ks → result.0 ≡ reported model.now set.now ks }
+        ensures members { (ks : List Kept) → AreFew self.left octets.now ks
+            → result.0 ≡ reported model.now set.now ks }
         ensures rooms { All IsRoom result.1.items }
         ensures count { length result.0 + length result.1.items ≡ self.left }
     {

@@ -1,6 +1,7 @@
 //! The members of a report, from the octets that a block keeps of an entry.
 
-ghost use Rattle.std.specs.Prelude.{◌≡◌, ◌≤◌, ◌<◌, ◌++◌, ◌/◌, ◌%◌, ℕ, List, length, vec_capacity, IfOk, IfSome, Some, option_map};
+ghost use Rattle.std.specs.Prelude.{◌≡◌, ◌≤◌, ◌<◌, ◌++◌, ◌/◌, ◌%◌, ℕ, List, length, vec_capacity};
+ghost use Rattle.std.specs.Prelude.{IfOk, IfSome, Some, option_map};
 ghost use Rattle.ber_grammar.specs.Element.{Element, Spells};
 ghost use Rattle.bay_model.specs.Named.{configured_model, nodes as nodes_of};
 ghost use Rattle.bay_model.specs.Notes.{Kept};
@@ -8,7 +9,8 @@ ghost use Rattle.bay_model.specs.Reports.{member_of, reference_at};
 ghost use Rattle.bay_model.specs.Retained.{kept_octets_of};
 ghost use Rattle.set_view.specs.Shapes.{node_numbers};
 ghost use Rattle.report_block.specs.EntryOctets.{weights as weights_of};
-ghost use Rattle.block_reports.specs.Again.{IsOneElement, AreKept, AreNodes, reasons_in, reference_by, reported, front_member, front_seen};
+ghost use Rattle.block_reports.specs.Again.{IsOneElement, AreKept, AreNodes, reasons_in};
+ghost use Rattle.block_reports.specs.Again.{reference_by, reported, front_member, front_seen};
 
 use crate::spare::{copied_into, emptied, put_member, spare_member};
 use bay_model::{Member, Members, Reasons};
@@ -18,7 +20,7 @@ use set_view::SetView;
 use std::alloc::{AllocError, Global};
 use sv_base::{MemberNo, NodeId, Octs};
 
-/// What stands in front of kept octets: a member, and the octets behind it.
+/// What stands in front of kept octets: a member, and the octets after it.
 #[derive(Clone, Copy, Debug)]
 pub(crate) struct Front<'a> {
     pub(crate) number: u32,
@@ -42,7 +44,8 @@ fn reasons_of(weights: u8) -> Reasons
 
 /// How many octets the first element has; none where the octets begin with none.
 fn element_len(octets: &[u8]) -> Option<usize>
-    ensures exact { (front rest : List ℕ) (e : Element) → Spells front e → octets.now ≡ front ++ rest → result ≡ Some (length front) }
+    ensures exact { (front rest : List ℕ) (e : Element) → Spells front e
+        → octets.now ≡ front ++ rest → result ≡ Some (length front) }
     ensures within { IfSome result (λ n. n ≤ length octets.now) }
 {
     match first(octets) {
@@ -53,7 +56,8 @@ fn element_len(octets: &[u8]) -> Option<usize>
 
 /// The member of a number in two octets, of reasons in one, whose Data stands in front of these octets.
 fn front_with(high: u8, low: u8, weights: u8, octets: &[u8]) -> Option<Front<'_>>
-    ensures exact { (k : Kept) (rest : List ℕ) → IsOneElement k.octets → high ≡ k.number / 256 → low ≡ k.number % 256 → weights ≡ weights_of k.reasons
+    ensures exact { (k : Kept) (rest : List ℕ) → IsOneElement k.octets → high ≡ k.number / 256
+        → low ≡ k.number % 256 → weights ≡ weights_of k.reasons
         → octets.now ≡ k.octets ++ rest → option_map front_seen result ≡ Some (k, rest) }
     ensures within { IfSome result (λ f. length f.rest.now ≤ length octets.now) }
 {
@@ -71,9 +75,10 @@ fn front_with(high: u8, low: u8, weights: u8, octets: &[u8]) -> Option<Front<'_>
     }
 }
 
-/// The first member, and the octets behind it.
+/// The first member, and the octets after it.
 pub(crate) fn front_of(octets: &[u8]) -> Option<Front<'_>>
-    ensures exact { (k : Kept) (rest : List ℕ) → IsOneElement k.octets → octets.now ≡ kept_octets_of k ++ rest
+    ensures exact { (k : Kept) (rest : List ℕ) → IsOneElement k.octets
+        → octets.now ≡ kept_octets_of k ++ rest
         → option_map front_seen result ≡ Some (k, rest) }
     ensures shorter { IfSome result (λ f. length f.rest.now < length octets.now) }
 {
@@ -93,7 +98,7 @@ fn reference_of(spare: Octs, model: &Model, node: NodeId) -> Result<Octs, AllocE
     Ok(reference_in(octets, model, node))
 }
 
-/// The reference `LD/item` of a node, in room that is there. It takes no memory.
+/// The reference `LD/item` of a node, in memory that is there. It takes no memory.
 pub(crate) fn reference_in(room: Vec<u8>, model: &Model, node: NodeId) -> Octs
     requires there { node.0 < length (nodes_of model.now) }
     requires room { length (reference_at (configured_model model.now) node.0) ≤ vec_capacity room }
@@ -115,7 +120,8 @@ fn member_reference(
     number: u32,
 ) -> Result<Octs, AllocError>
     requires { AreNodes model.now set.now }
-    ensures { IfOk result (λ o. o ≡ reference_by (configured_model model.now) (node_numbers set.now) number) }
+    ensures { IfOk result (λ o. o ≡ reference_by (configured_model model.now)
+        (node_numbers set.now) number) }
 {
     match set.get((number as usize).saturating_sub(1)) {
         Some(shape) => reference_of(spare, model, shape.node),
@@ -131,7 +137,8 @@ fn member_from(
     front: &Front<'_>,
 ) -> Result<Member, AllocError>
     requires { AreNodes model.now set.now }
-    ensures { IfOk result (λ m. m ≡ member_of (configured_model model.now) (node_numbers set.now) (front_member front.now)) }
+    ensures { IfOk result (λ m. m ≡ member_of (configured_model model.now) (node_numbers set.now)
+        (front_member front.now)) }
 {
     Ok(Member {
         number: MemberNo(front.number),
@@ -151,7 +158,8 @@ pub(crate) fn members_of(
     spare: Members,
 ) -> Result<Members, AllocError>
     requires { AreNodes model.now set.now }
-    ensures { IfOk result (λ members. (ks : List Kept) → AreKept octets.now ks → members ≡ reported model.now set.now ks) }
+    ensures { IfOk result (λ members. (ks : List Kept) → AreKept octets.now ks
+        → members ≡ reported model.now set.now ks) }
 {
     let mut items = spare.into_vec();
     // A member has at least six of the octets.

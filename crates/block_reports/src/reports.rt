@@ -28,9 +28,10 @@ fn whole_of(alloc: Global, entry: &Entry<'_>) -> Result<Vec<u8>, AllocError>
     Ok(joined_in(octets, entry))
 }
 
-/// The octets of an entry in one row, in room that is there. Where that is enough it takes no memory.
+/// The octets of an entry in one row, in memory that is there. Where that is enough it takes no memory.
 pub(crate) fn joined_in(room: Vec<u8>, entry: &Entry<'_>) -> Vec<u8>
-    ensures { length entry.now.first.now + length entry.now.second.now ≤ vec_capacity room → result.items ≡ entry.now.first.now ++ entry.now.second.now }
+    ensures { length entry.now.first.now + length entry.now.second.now ≤ vec_capacity room
+        → result.items ≡ entry.now.first.now ++ entry.now.second.now }
 {
     let mut octets = room;
     octets.clear();
@@ -49,7 +50,9 @@ fn members_in(
     spare: Members,
 ) -> Result<Members, AllocError>
     requires { AreNodes model.now set.now }
-    ensures { IfOk result (λ members. (ks : List Kept) → AreKept (entry.now.first.now ++ entry.now.second.now) ks → members ≡ reported model.now set.now ks) }
+    ensures { IfOk result (λ members. (ks : List Kept)
+        → AreKept (entry.now.first.now ++ entry.now.second.now) ks
+        → members ≡ reported model.now set.now ks) }
 {
     if entry.second.is_empty() {
         return members_of(alloc, model, set, entry.first, spare);
@@ -77,7 +80,8 @@ pub(crate) fn report_with(
     requires block { offer.now.block ≤ 4294967295 }
     requires few { length set.now ≤ 4294967295 }
     requires texts { AreTextsOf part.now texts }
-    ensures report { (c : Bay) (ks : List Kept) → members ≡ map (member_of c (node_numbers set.now)) ks
+    ensures report { (c : Bay) (ks : List Kept)
+        → members ≡ map (member_of c (node_numbers set.now)) ks
         → result ≡ report_by c set.now part.now (offered offer.now) ks }
     ensures members { result.members ≡ members }
 {

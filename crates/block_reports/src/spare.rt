@@ -1,12 +1,13 @@
 //! A report that is no longer needed: the next one is written in its memory.
 
-ghost use Rattle.std.specs.Prelude.{◌≡◌, ◌≤◌, ◌<◌, ◌++◌, ◌∷◌, ◌+◌, [], take, length, vec_capacity, IfOk, OnOk};
+ghost use Rattle.std.specs.Prelude.{◌≡◌, ◌≤◌, ◌<◌, ◌++◌, ◌∷◌, ◌+◌, [], take, length, vec_capacity};
+ghost use Rattle.std.specs.Prelude.{IfOk, OnOk};
 
 use bay_model::{Member, Members, Reasons, Report};
 use std::alloc::{AllocError, Global};
 use sv_base::{Bits, BlockNo, MemberNo, Moment, Octs};
 
-/// A copy of values in the memory of others: memory is taken only where they are more than had room.
+/// A copy of values in the memory of others: memory is taken only where they are more than there was capacity for.
 pub(crate) fn copied_into<T: Copy>(spare: Vec<T>, values: &[T]) -> Result<Vec<T>, AllocError>
     ensures { IfOk result (λ row. row.items ≡ values.now) }
 {
@@ -14,7 +15,7 @@ pub(crate) fn copied_into<T: Copy>(spare: Vec<T>, values: &[T]) -> Result<Vec<T>
     Ok(copied_in(row, values))
 }
 
-/// The memory of other values, with room for so many.
+/// The memory of other values, with capacity for that many.
 pub(crate) fn emptied<T: Drop>(spare: Vec<T>, most: usize) -> Result<Vec<T>, AllocError>
     ensures empty { IfOk result (λ row. row.items ≡ []) }
     ensures room { IfOk result (λ row. most ≤ vec_capacity row) }
@@ -25,7 +26,7 @@ pub(crate) fn emptied<T: Drop>(spare: Vec<T>, most: usize) -> Result<Vec<T>, All
     Ok(row)
 }
 
-/// A copy of values in room that is there, in place of what stood there. It takes no memory.
+/// A copy of values in memory that is there, in place of what stood there. It takes no memory.
 pub(crate) fn copied_in<T: Copy>(room: Vec<T>, values: &[T]) -> Vec<T>
     requires { length values.now ≤ vec_capacity room }
     ensures { result.items ≡ values.now }
@@ -87,14 +88,15 @@ pub(crate) fn spare_member(alloc: Global, items: &mut Vec<Member>, place: usize)
     }
 }
 
-/// Puts a member at a place, in place of the one that is there, or behind all.
+/// Puts a member at a place, in place of the one that is there, or after all.
 pub(crate) fn put_member(
     items: &mut Vec<Member>,
     place: usize,
     member: Member,
 ) -> Result<(), AllocError>
     requires { place ≤ length items.old.items }
-    ensures up_to { OnOk result (take (place + 1) items.new.items ≡ take place items.old.items ++ member ∷ []) }
+    ensures up_to { OnOk result (take (place + 1) items.new.items ≡ take place items.old.items
+        ++ member ∷ []) }
     ensures there { OnOk result (place < length items.new.items) }
 {
     if place < items.len() {

@@ -1,4 +1,4 @@
--- The index in more room, and with one data set more.
+-- The index in more capacity, and with one data set more.
 use Rattle.std.proofs.Common.{◌≡◌, ◌<◌, ◌≤◌, ◌∙◌, ℕ, suc, List, length, refl, ap, sym, subst, arith, inl, inr, None, Some}
 use Rattle.std.specs.Prelude.{slice_get, max, Option}
 use Rattle.std.proofs.lemmas.Bool.{cases_eq}
@@ -15,7 +15,7 @@ use Rattle.touch_index.specs.Gathered.{IsSetOf}
 use Rattle.report_block.specs.declared.block.ReportBlock.{ReportBlock}
 use Rattle.block_watch.specs.Watched.{IsIndexed, IsRoomier}
 
--- ---- more room
+-- ---- more capacity
 
 pub roomier-same : (x : Indexed) → IsRoomier x x
 roomier-same x = record { attrs = refl; count = refl; items = λ b. refl; rooms = λ b. omega arith }

@@ -80,7 +80,7 @@ put-stays bs b k ms own apart is = set-stays bs b k (record { items = touches_fr
 pub put-count : (bs : List (Filled Touch)) (b : ℕ) (ms : List MemberShape) → length (with_members b ms bs) ≡ length bs
 put-count bs b ms = length-set bs b (record { items = touches_from b 1 ms; room = (block_at bs b).room })
 
--- the room of a block that was put
+-- the memory of a block that was put
 room-stays : (bs : List (Filled Touch)) (b k : ℕ) (f : Filled Touch) → b < length bs → f.room ≡ (block_at bs b).room → (block_at (slice_set bs b f) k).room ≡ (block_at bs k).room
 room-stays bs b k f below same = elim (cases_eq k b) [
   | inl e ↦ ap (λ j. (block_at (slice_set bs b f) j).room) e ∙ (ap (λ (g : Filled Touch). g.room) (get_or-set_same bs b f none below) ∙ (same ∙ ap (λ j. (block_at bs j).room) (sym e)))
@@ -162,7 +162,7 @@ module _ (rows : List NodeRow) (book : Book) where
       }
   indexed-written n parts x i _ p q there keeps is = indexed-set n parts x i p q there keeps is
 
-  -- there is room for the members of each part
+  -- there is capacity for the members of each part
   pub room-for : (n : ℕ) (parts : List ReportBlock) (x : Indexed) (b : ℕ) (p : ReportBlock) → IsIndexed rows book n parts x → b < length x.blocks → IsSet book p.set → pairs (shapes p) ≤ (block_at x.blocks b).room
   room-for n parts x b p is below set = by p.set set where
     by : (o : Option ℕ) → IsSet book o → pairs (shapes_of rows (nodes_in book o)) ≤ (block_at x.blocks b).room

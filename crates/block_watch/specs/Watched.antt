@@ -1,5 +1,5 @@
 -- What finds the blocks that the process touches: the members of all data sets by their attributes, the trigger options of
--- each block, and room for the notes of a point (IEC 61850-7-2, DATA-SET, TrgOps and ReasonForInclusion).
+-- each block, and memory for the notes of a point (IEC 61850-7-2, DATA-SET, TrgOps and ReasonForInclusion).
 use Rattle.std.specs.Prelude.{◌≡◌, ◌<◌, ◌≤◌, ℕ, List, Some, length, map, slice_get}
 use Rattle.std.specs.List.{All}
 use Rattle.sv_base.specs.declared.components.Comp.{Comp}
@@ -36,20 +36,20 @@ pub record IsLent (rows : List NodeRow) (book : Book) (part : ReportBlock) : Typ
   pub set : IsSet book part.set
   pub there : AreThere (length rows) (nodes_in book part.set)
 
--- a part whose data set an index of so many attributes can hold
+-- a part whose data set an index of n attributes can hold
 pub record IsWatchable (rows : List NodeRow) (book : Book) (n : ℕ) (part : ReportBlock) : Type 0 where
   pub lent : IsLent rows book part
   pub few : length (members_in rows book part) ≤ 256
   pub among : AreAmong n (members_in rows book part)
 
--- the index has the members of each block's data set, and room for those of any
+-- the index has the members of each block's data set, and memory for those of any
 pub record IsIndexed (rows : List NodeRow) (book : Book) (n : ℕ) (parts : List ReportBlock) (x : Indexed) : Type 0 where
   pub attrs : x.attrs ≡ n
   pub count : length x.blocks ≡ length parts
   pub touches : (b : ℕ) (part : ReportBlock) → slice_get parts b ≡ Some part → IsSetOf x.blocks b (members_in rows book part)
   pub roomy : (b k : ℕ) → b < length x.blocks → k < length book.sets → pairs (members_at rows book k) ≤ (block_at x.blocks b).room
 
--- the index has what it had, in as much room at least
+-- the index has what it had, in as much capacity at least
 pub record IsRoomier (old new : Indexed) : Type 0 where
   pub attrs : new.attrs ≡ old.attrs
   pub count : length new.blocks ≡ length old.blocks
@@ -60,7 +60,7 @@ pub record IsRoomier (old new : Indexed) : Type 0 where
 abbrev pub options_in : List ReportBlock → List Trg
 options_in parts = map (λ (p : ReportBlock). trg_of p.block.options.trg_ops) parts
 
--- so many notes, none with a member, each with room for a data set
+-- n notes, none with a member, each with capacity for a data set
 pub record AreBlank (n : ℕ) (g : Gathered) : Type 0 where
   pub count : length g.notes ≡ n
   pub empty : AreEmpty g.notes
@@ -71,7 +71,7 @@ pub record IsWatching (rows : List NodeRow) (book : Book) (n : ℕ) (parts : Lis
   pub options : w.options.items ≡ options_in parts
   pub notes : AreBlank (length parts) w.notes
 
--- the data set of a part that was written, block b, fits into the room that the index has for it
+-- the data set of a part that was written, block b, fits into the memory that the index has for it
 pub record IsFollowed (rows : List NodeRow) (book : Book) (w : Watch) (b : ℕ) (part : ReportBlock) : Type 0 where
   pub lent : IsLent rows book part
   pub indexed : b < length w.index.blocks

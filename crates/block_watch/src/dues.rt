@@ -50,10 +50,11 @@ impl std::marker::Model for Dues {
 }
 
 impl Dues {
-    ghost use Rattle.std.specs.Prelude.{◌≡◌, ◌<◌, false, length, replicate, slice_get, slice_set, Some, IfOk};
+    ghost use Rattle.std.specs.Prelude.{◌≡◌, ◌<◌, false, length, replicate, slice_get, slice_set};
+    ghost use Rattle.std.specs.Prelude.{Some, IfOk};
     ghost use Rattle.block_watch.specs.Dues.{AreBefore};
 
-    /// Of so many blocks, each of which may have something due at once.
+    /// Of n blocks, each of which may have something due at once.
     pub fn open(alloc: Global, blocks: usize) -> Result<Dues, AllocError>
         ensures { IfOk result (λ d. d ≡ replicate blocks (Some 0)) }
     {

@@ -4,7 +4,8 @@ ghost use Rattle.std.specs.Prelude.{◌≡◌, ◌≤◌, ◌<◌, ◌^◌, ℕ,
 ghost use Rattle.std.specs.List.{All};
 ghost use Rattle.object_model.specs.Nodes.{node_rows};
 ghost use Rattle.touch_index.specs.Indexed.{block_at, pairs};
-ghost use Rattle.block_watch.specs.Watched.{AreLent, IsLent, members_in, IsRoomier, IsWatchable, IsIndexed, IsWatching, members_at, options_in};
+ghost use Rattle.block_watch.specs.Watched.{AreLent, IsLent, members_in, IsRoomier, IsWatchable};
+ghost use Rattle.block_watch.specs.Watched.{IsIndexed, IsWatching, members_at, options_in};
 
 use bay_model::{Comp, NodeRow, Trg};
 use data_sets::SetBook;
@@ -15,7 +16,7 @@ use std::alloc::{AllocError, Global};
 use sv_base::{BlockNo, NodeId};
 use touch_index::{Filling, Index, Notes};
 
-/// The index of the members of all data sets, the trigger options of each block, and room for the notes of a point.
+/// The index of the members of all data sets, the trigger options of each block, and memory for the notes of a point.
 #[derive(Drop)]
 pub struct Watch {
     pub index: Index,
@@ -48,7 +49,8 @@ fn pairs_of(set: &SetView<'_>) -> Result<u32, AllocError>
 /// The most pairs of attribute and member that a data set has.
 fn most_pairs(book: &SetBook, rows: &[NodeRow]) -> Result<u32, AllocError>
     requires { AreLent rows.now book.now }
-    ensures { IfOk result (λ n. (k : ℕ) → k < length book.now.sets → pairs (members_at rows.now book.now k) ≤ n) }
+    ensures { IfOk result (λ n. (k : ℕ) → k < length book.now.sets
+        → pairs (members_at rows.now book.now k) ≤ n) }
 {
     let mut most: u32 = 0;
     for number in 0..book.len() {
@@ -57,7 +59,7 @@ fn most_pairs(book: &SetBook, rows: &[NodeRow]) -> Result<u32, AllocError>
     Ok(most)
 }
 
-/// The members of all blocks' data sets, each in room for the pairs of any data set.
+/// The members of all blocks' data sets, each in memory for the pairs of any data set.
 fn filling_of(
     alloc: Global,
     attrs: u32,
@@ -79,7 +81,7 @@ fn filling_of(
     Ok(filling)
 }
 
-/// The index of the members of all blocks' data sets, each in room for the pairs of any data set.
+/// The index of the members of all blocks' data sets, each in memory for the pairs of any data set.
 fn index_of(
     alloc: Global,
     attrs: u32,
@@ -96,11 +98,12 @@ fn index_of(
     Ok(filling.finish())
 }
 
-/// Makes room for so many pairs in the index of every block.
+/// Reserves memory for n pairs in the index of every block.
 fn reserve_all(index: &mut Index, blocks: u32, pairs: u32) -> Result<(), AllocError>
     requires { blocks ≡ length index.old.blocks }
     ensures grown { IsRoomier index.old index.new }
-    ensures made { OnOk result ((b : ℕ) → b < length index.old.blocks → pairs ≤ (block_at index.new.blocks b).room) }
+    ensures made { OnOk result ((b : ℕ) → b < length index.old.blocks
+        → pairs ≤ (block_at index.new.blocks b).room) }
 {
     for b in 0..blocks {
         index.reserve(BlockNo(b), pairs)?;
@@ -126,9 +129,10 @@ impl Watch {
     ghost use Rattle.object_model.specs.Nodes.{node_rows};
     ghost use Rattle.brcb_state.specs.Components.{trg_of};
     ghost use Rattle.std.specs.List.{All};
-    ghost use Rattle.block_watch.specs.Watched.{AreLent, IsFollowed, IsRoomier, IsWatching, IsWatchable, index_after, members_in};
+    ghost use Rattle.block_watch.specs.Watched.{AreLent, IsFollowed, IsRoomier, IsWatching};
+    ghost use Rattle.block_watch.specs.Watched.{IsWatchable, index_after, members_in};
 
-    /// The data sets of all blocks by their attributes. It takes the room that notes need.
+    /// The data sets of all blocks by their attributes. It takes the memory that notes need.
     pub fn open(
         alloc: Global,
         attrs: u32,
@@ -148,7 +152,7 @@ impl Watch {
         })
     }
 
-    /// Makes room for a data set of these members in the index of every block.
+    /// Reserves memory for a data set of these members in the index of every block.
     pub fn reserve(&mut self, nodes: &[NodeId], rows: &[NodeRow]) -> Result<(), AllocError>
         requires there { AreThere (length rows.now) nodes.now }
         requires count { length self.old.options.items ≡ length self.old.index.blocks }
@@ -175,8 +179,10 @@ impl Watch {
         model: &Model,
     )
         requires { IsFollowed (node_rows model.now) book.now self.old b.0 part.now }
-        ensures index { self.new.index ≡ index_after comp b.0 (members_in (node_rows model.now) book.now part.now) self.old.index }
-        ensures options { self.new.options.items ≡ slice_set self.old.options.items b.0 (trg_of part.now.block.options.trg_ops) }
+        ensures index { self.new.index ≡ index_after comp b.0
+            (members_in (node_rows model.now) book.now part.now) self.old.index }
+        ensures options { self.new.options.items ≡ slice_set self.old.options.items b.0
+            (trg_of part.now.block.options.trg_ops) }
         ensures notes { self.new.notes ≡ self.old.notes }
     {
         if matches!(comp, Comp::DatSet) {

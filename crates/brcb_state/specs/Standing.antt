@@ -96,7 +96,7 @@ abbrev pub is_disabling : Effect → Bool
 is_disabling effects.Disabled = true
 is_disabling _ = false
 
--- the effect tells what point p is for block b
+-- the effect says what point p is for block b
 pub record Tells (e : Effect) (c : Model) (b : ℕ) (p : Point) (before : Past) : Type 0 where
   pub purge : is_purging e ≡ purges c b p.deed before
   pub change : is_change e ≡ is_purging_change c b p.deed before

@@ -59,7 +59,8 @@ impl Block {
     ghost use Rattle.std.specs.Prelude.{◌≡◌, ◌≤◌, length, IfOk};
     ghost use Rattle.bay_model.specs.Reports.{report_id};
     ghost use Rattle.bay_model.specs.Configured.{block_defined};
-    ghost use Rattle.brcb_state.specs.Changes.{configured, is_by, is_by_another, next_to, after_report, after_loss};
+    ghost use Rattle.brcb_state.specs.Changes.{configured, is_by, is_by_another, next_to};
+    ghost use Rattle.brcb_state.specs.Changes.{after_report, after_loss};
     ghost use Rattle.brcb_state.specs.Components.{trg_of};
 
     /// A block as it is configured, enabled by nobody. It takes all the memory that its writes need.

@@ -2,7 +2,9 @@
 
 ghost use Rattle.std.specs.Prelude.{◌≡◌, if◌then◌else◌};
 ghost use Rattle.brcb_state.specs.declared.told.Effect.TheVariants as effects;
-ghost use Rattle.bay_model.specs.declared.access_errors.TheConstants.{TEMPORARILY_UNAVAILABLE, TYPE_INCONSISTENT, OBJECT_VALUE_INVALID};
+ghost use Rattle.bay_model.specs.declared.access_errors.TheConstants.{TEMPORARILY_UNAVAILABLE};
+ghost use Rattle.bay_model.specs.declared.access_errors.TheConstants.{TYPE_INCONSISTENT};
+ghost use Rattle.bay_model.specs.declared.access_errors.TheConstants.{OBJECT_VALUE_INVALID};
 
 use crate::block::Block;
 use crate::options::MOST;
@@ -23,7 +25,8 @@ fn purging(differs: bool) -> Effect
 }
 
 impl Block {
-    ghost use Rattle.std.specs.Prelude.{◌≡◌, ◌==◌, ◌&&◌, ◌||◌, ◌^◌, ◌<◌, not, nat_lt, nat_le, length, ℕ, Bool, false, is_none, is_some, Result, Ok};
+    ghost use Rattle.std.specs.Prelude.{◌≡◌, ◌==◌, ◌&&◌, ◌||◌, ◌^◌, ◌<◌, not, nat_lt, nat_le};
+    ghost use Rattle.std.specs.Prelude.{length, ℕ, Bool, false, is_none, is_some, Result, Ok};
     ghost use Rattle.std.specs.Prelude.{[], Err, OnOk, OnErr, if◌then◌else◌};
     ghost use Rattle.sv_base.specs.declared.value.Value.TheVariants as kinds;
     ghost use Rattle.sv_base.specs.declared.components.Comp.TheVariants as comps;
@@ -34,8 +37,10 @@ impl Block {
     ghost use Rattle.brcb_state.specs.Refusals.{answer_to, anyone};
 
     fn set_rpt_id(&mut self, foreign: bool, text: &[u8]) -> Result<Effect, u8>
-        ensures answer { result ≡ answer_to anyone foreign comps.RptID (kinds.Text text.now) false self.old }
-        ensures written { OnOk result (self.new ≡ attributes_written anyone [] comps.RptID (kinds.Text text.now) 0 self.old) }
+        ensures answer { result ≡ answer_to anyone foreign comps.RptID
+            (kinds.Text text.now) false self.old }
+        ensures written { OnOk result (self.new ≡ attributes_written anyone [] comps.RptID
+            (kinds.Text text.now) 0 self.old) }
         ensures unchanged { OnErr result (self.new ≡ self.old) }
     {
         if foreign || self.enabler.is_some() {
@@ -50,7 +55,8 @@ impl Block {
 
     pub(crate) fn write_rpt_id(&mut self, foreign: bool, value: &Value) -> Result<Effect, u8>
         ensures answer { result ≡ answer_to anyone foreign comps.RptID value.now false self.old }
-        ensures written { OnOk result (self.new ≡ attributes_written anyone [] comps.RptID value.now 0 self.old) }
+        ensures written { OnOk result (self.new ≡ attributes_written anyone
+            [] comps.RptID value.now 0 self.old) }
         ensures unchanged { OnErr result (self.new ≡ self.old) }
     {
         match value {
@@ -61,7 +67,8 @@ impl Block {
 
     /// ConfRev after a write of DatSet.
     fn revision_after(&self, differs: bool) -> u32
-        ensures { result ≡ (if differs then next_revision self.now.revision else self.now.revision) }
+        ensures { result ≡ (if differs then next_revision self.now.revision
+            else self.now.revision) }
     {
         if !differs {
             self.revision
@@ -73,8 +80,10 @@ impl Block {
     }
 
     fn set_dat_set(&mut self, foreign: bool, text: &[u8], known: bool) -> Result<Effect, u8>
-        ensures answer { result ≡ answer_to anyone foreign comps.DatSet (kinds.Text text.now) (names_nothing 0 0 known comps.DatSet (kinds.Text text.now)) self.old }
-        ensures written { OnOk result (self.new ≡ attributes_written anyone [] comps.DatSet (kinds.Text text.now) 0 self.old) }
+        ensures answer { result ≡ answer_to anyone foreign comps.DatSet (kinds.Text text.now)
+            (names_nothing 0 0 known comps.DatSet (kinds.Text text.now)) self.old }
+        ensures written { OnOk result (self.new ≡ attributes_written anyone [] comps.DatSet
+            (kinds.Text text.now) 0 self.old) }
         ensures unchanged { OnErr result (self.new ≡ self.old) }
     {
         if foreign || self.enabler.is_some() {
@@ -94,8 +103,10 @@ impl Block {
         value: &Value,
         known: bool,
     ) -> Result<Effect, u8>
-        ensures answer { result ≡ answer_to anyone foreign comps.DatSet value.now (names_nothing 0 0 known comps.DatSet value.now) self.old }
-        ensures written { OnOk result (self.new ≡ attributes_written anyone [] comps.DatSet value.now 0 self.old) }
+        ensures answer { result ≡ answer_to anyone foreign comps.DatSet value.now
+            (names_nothing 0 0 known comps.DatSet value.now) self.old }
+        ensures written { OnOk result (self.new ≡ attributes_written anyone
+            [] comps.DatSet value.now 0 self.old) }
         ensures unchanged { OnErr result (self.new ≡ self.old) }
     {
         match value {
@@ -107,7 +118,8 @@ impl Block {
     /// Takes bits of this number, for a block that isn't held.
     fn take_bits(&self, foreign: bool, bits: &[bool], count: usize) -> Result<(), u8>
         ensures { result ≡ (if not (length bits.now == count) then Err TYPE_INCONSISTENT
-            else if foreign || is_some self.now.enabler then Err TEMPORARILY_UNAVAILABLE else Ok tt) }
+            else if foreign || is_some self.now.enabler
+            then Err TEMPORARILY_UNAVAILABLE else Ok tt) }
     {
         if bits.len() != count {
             return Err(access_errors::TYPE_INCONSISTENT);
@@ -119,8 +131,10 @@ impl Block {
     }
 
     fn set_opt_flds(&mut self, foreign: bool, bits: &[bool]) -> Result<Effect, u8>
-        ensures answer { result ≡ answer_to anyone foreign comps.OptFlds (kinds.Bits bits.now) false self.old }
-        ensures written { OnOk result (self.new ≡ attributes_written anyone [] comps.OptFlds (kinds.Bits bits.now) 0 self.old) }
+        ensures answer { result ≡ answer_to anyone foreign comps.OptFlds
+            (kinds.Bits bits.now) false self.old }
+        ensures written { OnOk result (self.new ≡ attributes_written anyone [] comps.OptFlds
+            (kinds.Bits bits.now) 0 self.old) }
         ensures unchanged { OnErr result (self.new ≡ self.old) }
     {
         self.take_bits(foreign, bits, 10)?;
@@ -130,7 +144,8 @@ impl Block {
 
     pub(crate) fn write_opt_flds(&mut self, foreign: bool, value: &Value) -> Result<Effect, u8>
         ensures answer { result ≡ answer_to anyone foreign comps.OptFlds value.now false self.old }
-        ensures written { OnOk result (self.new ≡ attributes_written anyone [] comps.OptFlds value.now 0 self.old) }
+        ensures written { OnOk result (self.new ≡ attributes_written anyone
+            [] comps.OptFlds value.now 0 self.old) }
         ensures unchanged { OnErr result (self.new ≡ self.old) }
     {
         match value {
@@ -140,8 +155,10 @@ impl Block {
     }
 
     fn set_trg_ops(&mut self, foreign: bool, bits: &[bool]) -> Result<Effect, u8>
-        ensures answer { result ≡ answer_to anyone foreign comps.TrgOps (kinds.Bits bits.now) false self.old }
-        ensures written { OnOk result (self.new ≡ attributes_written anyone [] comps.TrgOps (kinds.Bits bits.now) 0 self.old) }
+        ensures answer { result ≡ answer_to anyone foreign comps.TrgOps
+            (kinds.Bits bits.now) false self.old }
+        ensures written { OnOk result (self.new ≡ attributes_written anyone [] comps.TrgOps
+            (kinds.Bits bits.now) 0 self.old) }
         ensures unchanged { OnErr result (self.new ≡ self.old) }
     {
         self.take_bits(foreign, bits, 6)?;
@@ -151,7 +168,8 @@ impl Block {
 
     pub(crate) fn write_trg_ops(&mut self, foreign: bool, value: &Value) -> Result<Effect, u8>
         ensures answer { result ≡ answer_to anyone foreign comps.TrgOps value.now false self.old }
-        ensures written { OnOk result (self.new ≡ attributes_written anyone [] comps.TrgOps value.now 0 self.old) }
+        ensures written { OnOk result (self.new ≡ attributes_written anyone
+            [] comps.TrgOps value.now 0 self.old) }
         ensures unchanged { OnErr result (self.new ≡ self.old) }
     {
         match value {
@@ -175,8 +193,10 @@ impl Block {
     }
 
     fn set_buf_tm(&mut self, foreign: bool, n: u64) -> Result<Effect, u8>
-        ensures answer { result ≡ answer_to anyone foreign comps.BufTm (kinds.Uint n) false self.old }
-        ensures written { OnOk result (self.new ≡ attributes_written anyone [] comps.BufTm (kinds.Uint n) 0 self.old) }
+        ensures answer { result ≡ answer_to anyone foreign comps.BufTm
+            (kinds.Uint n) false self.old }
+        ensures written { OnOk result (self.new ≡ attributes_written anyone [] comps.BufTm
+            (kinds.Uint n) 0 self.old) }
         ensures unchanged { OnErr result (self.new ≡ self.old) }
     {
         let n = self.number(foreign, n)?;
@@ -186,7 +206,8 @@ impl Block {
 
     pub(crate) fn write_buf_tm(&mut self, foreign: bool, value: &Value) -> Result<Effect, u8>
         ensures answer { result ≡ answer_to anyone foreign comps.BufTm value.now false self.old }
-        ensures written { OnOk result (self.new ≡ attributes_written anyone [] comps.BufTm value.now 0 self.old) }
+        ensures written { OnOk result (self.new ≡ attributes_written anyone
+            [] comps.BufTm value.now 0 self.old) }
         ensures unchanged { OnErr result (self.new ≡ self.old) }
     {
         match value {
@@ -196,8 +217,10 @@ impl Block {
     }
 
     fn set_intg_pd(&mut self, foreign: bool, n: u64) -> Result<Effect, u8>
-        ensures answer { result ≡ answer_to anyone foreign comps.IntgPd (kinds.Uint n) false self.old }
-        ensures written { OnOk result (self.new ≡ attributes_written anyone [] comps.IntgPd (kinds.Uint n) 0 self.old) }
+        ensures answer { result ≡ answer_to anyone foreign comps.IntgPd
+            (kinds.Uint n) false self.old }
+        ensures written { OnOk result (self.new ≡ attributes_written anyone [] comps.IntgPd
+            (kinds.Uint n) 0 self.old) }
         ensures unchanged { OnErr result (self.new ≡ self.old) }
     {
         let n = self.number(foreign, n)?;
@@ -207,7 +230,8 @@ impl Block {
 
     pub(crate) fn write_intg_pd(&mut self, foreign: bool, value: &Value) -> Result<Effect, u8>
         ensures answer { result ≡ answer_to anyone foreign comps.IntgPd value.now false self.old }
-        ensures written { OnOk result (self.new ≡ attributes_written anyone [] comps.IntgPd value.now 0 self.old) }
+        ensures written { OnOk result (self.new ≡ attributes_written anyone
+            [] comps.IntgPd value.now 0 self.old) }
         ensures unchanged { OnErr result (self.new ≡ self.old) }
     {
         match value {

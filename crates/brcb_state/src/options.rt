@@ -11,7 +11,7 @@ use sv_base::BlockDef;
 /// The greatest length of RptID and of DatSet in octets.
 pub const MOST: usize = 129;
 
-/// Octets with room for the greatest length at least.
+/// Octets with capacity for the greatest length at least.
 fn roomy(alloc: Global, octets: &[u8]) -> Result<Fixed, AllocError>
     ensures { IfOk result (λ f. (f.items ≡ octets.now) × (129 ≤ f.room)) }
 {
@@ -23,7 +23,7 @@ fn roomy(alloc: Global, octets: &[u8]) -> Result<Fixed, AllocError>
     Ok(text)
 }
 
-/// Puts bits in the place of as many others; tells whether they were others.
+/// Puts bits in the place of as many others; returns whether they were others.
 fn replace_bits(old: &mut Vec<bool>, new: &[bool]) -> bool
     requires { length new.now ≡ length old.old.items }
     ensures differs { result ≡ not (is_same_bits new.now old.old.items) }
@@ -60,7 +60,8 @@ impl Model for Options {
       intg_pd = o.intg_pd;
     } };
 
-    ghost invariant = { λ o. (129 ≤ o.rpt_id.room) × (129 ≤ o.dat_set.room) × (length o.opt_flds.items ≡ 10) × (length o.trg_ops.items ≡ 6) };
+    ghost invariant = { λ o. (129 ≤ o.rpt_id.room) × (129 ≤ o.dat_set.room)
+        × (length o.opt_flds.items ≡ 10) × (length o.trg_ops.items ≡ 6) };
 }
 
 impl Options {
@@ -129,7 +130,7 @@ impl Options {
         self.intg_pd
     }
 
-    /// Sets RptID; tells whether it was another.
+    /// Sets RptID; returns whether it was another.
     pub fn set_rpt_id(&mut self, new: &[u8]) -> bool
         requires { length new.now ≤ 129 }
         ensures differs { result ≡ not (bytes_eq new.now self.old.rpt_id) }
@@ -138,7 +139,7 @@ impl Options {
         replace(&mut self.rpt_id, new)
     }
 
-    /// Sets DatSet; tells whether it was another.
+    /// Sets DatSet; returns whether it was another.
     pub fn set_dat_set(&mut self, new: &[u8]) -> bool
         requires { length new.now ≤ 129 }
         ensures differs { result ≡ not (bytes_eq new.now self.old.dat_set) }
@@ -155,7 +156,7 @@ impl Options {
         self.opt_flds.copy_from_slice(new);
     }
 
-    /// Sets BufTm; tells whether it was another.
+    /// Sets BufTm; returns whether it was another.
     pub fn set_buf_tm(&mut self, new: u32) -> bool
         ensures differs { result ≡ not (new == self.old.buf_tm) }
         ensures set { self.new ≡ record self.old { buf_tm = new } }
@@ -165,7 +166,7 @@ impl Options {
         differs
     }
 
-    /// Sets TrgOps; tells whether they were others.
+    /// Sets TrgOps; returns whether they were others.
     pub fn set_trg_ops(&mut self, new: &[bool]) -> bool
         requires { length new.now ≡ 6 }
         ensures differs { result ≡ not (is_same_bits new.now self.old.trg_ops) }
@@ -174,7 +175,7 @@ impl Options {
         replace_bits(&mut self.trg_ops, new)
     }
 
-    /// Sets IntgPd; tells whether it was another.
+    /// Sets IntgPd; returns whether it was another.
     pub fn set_intg_pd(&mut self, new: u32) -> bool
         ensures differs { result ≡ not (new == self.old.intg_pd) }
         ensures set { self.new ≡ record self.old { intg_pd = new } }

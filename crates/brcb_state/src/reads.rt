@@ -84,7 +84,9 @@ impl Block {
 
     /// The address that it is reserved for, else the enabler's, else no octets.
     fn read_owner(&self, alloc: Global, now: Moment) -> Result<Value, AllocError>
-        ensures { IfOk result (λ v. v ≡ kinds.Octets (owner_of (option_map (λ (e : Holder). e.owner) self.now.enabler) (lasting now self.now.reservation))) }
+        ensures { IfOk result (λ v. v ≡ kinds.Octets
+            (owner_of (option_map (λ (e : Holder). e.owner) self.now.enabler)
+            (lasting now self.now.reservation))) }
     {
         match (&self.reservation, &self.enabler) {
             (Some(reserved), _) if !reserved.is_run_out(now) => octets(

@@ -21,18 +21,29 @@ impl Model for Reserved {
 
     ghost Value = { Reservation };
 
-    ghost view = { λ r. record { owner = r.owner; seconds = r.seconds; writers = r.writers; since = r.since } };
+    ghost view = { λ r. record {
+      owner = r.owner;
+      seconds = r.seconds;
+      writers = r.writers;
+      since = r.since;
+    } };
 }
 
 impl Reserved {
     ghost use Rattle.std.specs.Prelude.{◌≡◌, ◌≤◌, ◌∷◌, [], not};
     ghost use Rattle.std.specs.Str.{bytes_eq};
-    ghost use Rattle.bay_model.specs.Reservations.{is_run_out, is_for_another, with_writer, without_writer};
+    ghost use Rattle.bay_model.specs.Reservations.{is_run_out, is_for_another, with_writer};
+    ghost use Rattle.bay_model.specs.Reservations.{without_writer};
 
     /// A reservation for an address, by the write of an association.
     pub fn by(a: AssocNo, owner: &Owner, seconds: u16, now: Moment) -> Reserved
         requires { (1 ≤ a.0) × (a.0 ≤ 64) }
-        ensures { result ≡ record { owner = owner.now; seconds = seconds; writers = a.0 ∷ []; since = now } }
+        ensures { result ≡ record {
+          owner = owner.now;
+          seconds = seconds;
+          writers = a.0 ∷ [];
+          since = now;
+        } }
     {
         Reserved {
             owner: *owner,

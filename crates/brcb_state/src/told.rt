@@ -1,4 +1,4 @@
-//! What a block is told of its entries, and what it tells.
+//! What a block is told of its entries, and what it says.
 
 /// The entries of a block at a moment.
 #[derive(Clone, Copy, Debug, PartialEq, Eq)]

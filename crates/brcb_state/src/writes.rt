@@ -7,7 +7,10 @@ ghost use Rattle.sv_base.specs.declared.value.Value.TheVariants as kinds;
 ghost use Rattle.bay_model.specs.Breaks.{is_empty as is_empty_list};
 ghost use Rattle.brcb_state.specs.declared.told.Effect.TheVariants as effects;
 ghost use Rattle.bay_model.specs.BlockWrites.{is_retained_or_zero};
-ghost use Rattle.bay_model.specs.declared.access_errors.TheConstants.{TEMPORARILY_UNAVAILABLE, OBJECT_ACCESS_DENIED, TYPE_INCONSISTENT, OBJECT_VALUE_INVALID};
+ghost use Rattle.bay_model.specs.declared.access_errors.TheConstants.{TEMPORARILY_UNAVAILABLE};
+ghost use Rattle.bay_model.specs.declared.access_errors.TheConstants.{OBJECT_ACCESS_DENIED};
+ghost use Rattle.bay_model.specs.declared.access_errors.TheConstants.{TYPE_INCONSISTENT};
+ghost use Rattle.bay_model.specs.declared.access_errors.TheConstants.{OBJECT_VALUE_INVALID};
 
 use crate::block::{Block, Holder, bit};
 use crate::reservation::Reserved;
@@ -30,8 +33,10 @@ fn is_retained_or_zero(kept: Retained, n: u64) -> bool
 
 /// What a number that isn't writable refuses a value by.
 fn number_refusal(value: &Value) -> u8
-    ensures revision { result ≡ (if not (is_kind (uint 32) value.now) then TYPE_INCONSISTENT else OBJECT_ACCESS_DENIED) }
-    ensures count { result ≡ (if not (is_kind (uint 16) value.now) then TYPE_INCONSISTENT else OBJECT_ACCESS_DENIED) }
+    ensures revision { result ≡ (if not (is_kind (uint 32) value.now) then TYPE_INCONSISTENT
+        else OBJECT_ACCESS_DENIED) }
+    ensures count { result ≡ (if not (is_kind (uint 16) value.now) then TYPE_INCONSISTENT
+        else OBJECT_ACCESS_DENIED) }
 {
     match value {
         Value::Uint(_) => access_errors::OBJECT_ACCESS_DENIED,
@@ -41,7 +46,8 @@ fn number_refusal(value: &Value) -> u8
 
 /// What a time that isn't writable refuses a value by.
 fn stamp_refusal(value: &Value) -> u8
-    ensures { result ≡ (if not (is_kind stamp value.now) then TYPE_INCONSISTENT else OBJECT_ACCESS_DENIED) }
+    ensures { result ≡ (if not (is_kind stamp value.now) then TYPE_INCONSISTENT
+        else OBJECT_ACCESS_DENIED) }
 {
     match value {
         Value::Stamp(_) => access_errors::OBJECT_ACCESS_DENIED,
@@ -51,7 +57,8 @@ fn stamp_refusal(value: &Value) -> u8
 
 /// What an address that isn't writable refuses a value by.
 fn owner_refusal(value: &Value) -> u8
-    ensures { result ≡ (if not (is_kind (octets 64) value.now) then TYPE_INCONSISTENT else OBJECT_ACCESS_DENIED) }
+    ensures { result ≡ (if not (is_kind (octets 64) value.now) then TYPE_INCONSISTENT
+        else OBJECT_ACCESS_DENIED) }
 {
     match value {
         Value::Octets(_) => access_errors::OBJECT_ACCESS_DENIED,
@@ -65,7 +72,8 @@ impl Block {
     ghost use Rattle.brcb_state.specs.Refusals.{IsAcceptedFor};
     ghost use Rattle.std.specs.Prelude.{[], true};
     ghost use Rattle.sv_base.specs.declared.numbers.AssocNo.{AssocNo};
-    ghost use Rattle.std.specs.Prelude.{◌≡◌, ◌≤◌, ◌==◌, ◌&&◌, ◌||◌, ℕ, Bool, false, is_none, is_some, min, Result, Ok, Err, OnOk, OnErr, if◌then◌else◌};
+    ghost use Rattle.std.specs.Prelude.{◌≡◌, ◌≤◌, ◌==◌, ◌&&◌, ◌||◌, ℕ, Bool, false, is_none};
+    ghost use Rattle.std.specs.Prelude.{is_some, min, Result, Ok, Err, OnOk, OnErr, if◌then◌else◌};
     ghost use Rattle.sv_base.specs.declared.value.Value.TheVariants as kinds;
     ghost use Rattle.sv_base.specs.declared.components.Comp.TheVariants as comps;
     ghost use Rattle.brcb_state.specs.declared.told.Retained.{Retained};
@@ -98,7 +106,8 @@ impl Block {
 
     fn enable(&mut self, a: AssocNo, owner: &Owner, foreign: bool, on: bool) -> Result<Effect, u8>
         ensures answer { result ≡ answer_to a foreign comps.RptEna (kinds.Bool on) false self.old }
-        ensures written { OnOk result (self.new ≡ attributes_written a owner.now comps.RptEna (kinds.Bool on) 0 self.old) }
+        ensures written { OnOk result (self.new ≡ attributes_written a owner.now comps.RptEna
+            (kinds.Bool on) 0 self.old) }
         ensures unchanged { OnErr result (self.new ≡ self.old) }
     {
         if foreign || self.is_enabled_by_another(a) {
@@ -128,7 +137,8 @@ impl Block {
         value: &Value,
     ) -> Result<Effect, u8>
         ensures answer { result ≡ answer_to a foreign comps.RptEna value.now false self.old }
-        ensures written { OnOk result ((front : ℕ) → self.new ≡ attributes_written a owner.now comps.RptEna value.now front self.old) }
+        ensures written { OnOk result ((front : ℕ)
+            → self.new ≡ attributes_written a owner.now comps.RptEna value.now front self.old) }
         ensures unchanged { OnErr result (self.new ≡ self.old) }
     {
         match value {
@@ -145,9 +155,14 @@ impl Block {
     }
 
     fn resume(&mut self, foreign: bool, n: u64, kept: Retained) -> Result<Effect, u8>
-        ensures answer { result ≡ (if foreign || is_some self.old.enabler then Err TEMPORARILY_UNAVAILABLE else
-            (if is_retained_or_zero kept.front kept.len n then Ok effects.Nothing else Err OBJECT_VALUE_INVALID)) }
-        ensures written { OnOk result (self.new ≡ record self.old { cursor = if n == 0 then min self.old.cursor kept.front else n }) }
+        ensures answer { result ≡ (if foreign || is_some self.old.enabler
+            then Err TEMPORARILY_UNAVAILABLE else
+            (if is_retained_or_zero kept.front kept.len n then Ok effects.Nothing
+            else Err OBJECT_VALUE_INVALID)) }
+        ensures written { OnOk result (self.new ≡ record self.old {
+          cursor = if n == 0
+              then min self.old.cursor kept.front else n;
+        }) }
         ensures unchanged { OnErr result (self.new ≡ self.old) }
     {
         if foreign || self.enabler.is_some() {
@@ -169,7 +184,8 @@ impl Block {
     ) -> Result<Effect, u8>
         ensures answer { result ≡ answer_to a foreign comps.EntryID (kinds.Octets octets.now)
             (names_nothing kept false comps.EntryID (kinds.Octets octets.now)) self.old }
-        ensures written { OnOk result (self.new ≡ attributes_written a [] comps.EntryID (kinds.Octets octets.now) kept.front self.old) }
+        ensures written { OnOk result (self.new ≡ attributes_written a [] comps.EntryID
+            (kinds.Octets octets.now) kept.front self.old) }
         ensures unchanged { OnErr result (self.new ≡ self.old) }
     {
         match octets.as_array::<8>() {
@@ -185,8 +201,10 @@ impl Block {
         value: &Value,
         kept: Retained,
     ) -> Result<Effect, u8>
-        ensures answer { result ≡ answer_to a foreign comps.EntryID value.now (names_nothing kept false comps.EntryID value.now) self.old }
-        ensures written { OnOk result (self.new ≡ attributes_written a [] comps.EntryID value.now kept.front self.old) }
+        ensures answer { result ≡ answer_to a foreign comps.EntryID value.now
+            (names_nothing kept false comps.EntryID value.now) self.old }
+        ensures written { OnOk result (self.new ≡ attributes_written a
+            [] comps.EntryID value.now kept.front self.old) }
         ensures unchanged { OnErr result (self.new ≡ self.old) }
     {
         match value {
@@ -245,9 +263,10 @@ impl Block {
         }
     }
 
-    /// A ResvTms of so many seconds; what it makes of the reservation comes behind.
+    /// A ResvTms of n seconds; what it makes of the reservation comes after.
     fn write_resv_tms(&self, a: AssocNo, foreign: bool, value: &Value) -> Result<Effect, u8>
-        ensures { result ≡ answer_to a foreign comps.ResvTms value.now (model.names_nothing 0 0 false comps.ResvTms value.now) self.now }
+        ensures { result ≡ answer_to a foreign comps.ResvTms value.now
+            (model.names_nothing 0 0 false comps.ResvTms value.now) self.now }
     {
         let Value::Int(seconds) = value else {
             return Err(access_errors::TYPE_INCONSISTENT);
@@ -288,7 +307,10 @@ impl Block {
     fn reserve(&mut self, a: AssocNo, owner: &Owner, now: Moment, comp: Comp, value: &Value)
         requires number { (1 ≤ a.0) × (a.0 ≤ 64) }
         requires accepted { IsAcceptedFor comp value.now }
-        ensures { self.new ≡ record self.old { reservation = reservation_by now a.0 owner.now comp value.now (lasting now self.old.reservation) } }
+        ensures { self.new ≡ record self.old {
+          reservation = reservation_by now a.0 owner.now comp
+              value.now (lasting now self.old.reservation);
+        } }
     {
         if let (Comp::ResvTms, Value::Int(seconds)) = (comp, value) {
             self.reservation = if *seconds > 0 {
@@ -314,8 +336,10 @@ impl Block {
         kept: Retained,
         known: bool,
     ) -> Result<Effect, u8>
-        ensures answer { result ≡ answer_to a foreign comp value.now (names_nothing kept known comp value.now) self.old }
-        ensures written { OnOk result (self.new ≡ attributes_written a owner.now comp value.now kept.front self.old) }
+        ensures answer { result ≡ answer_to a foreign comp value.now
+            (names_nothing kept known comp value.now) self.old }
+        ensures written { OnOk result
+            (self.new ≡ attributes_written a owner.now comp value.now kept.front self.old) }
         ensures unchanged { OnErr result (self.new ≡ self.old) }
     {
         match comp {
@@ -337,7 +361,7 @@ impl Block {
         }
     }
 
-    /// Writes a component for an association; tells what that brings about besides, or the code of the first refusal:
+    /// Writes a component for an association; returns what that brings about besides, or the code of the first refusal:
     ///
     /// - 7 where the value is of another type, a bit string of another length, or an EntryID not of eight octets;
     /// - 3 where the component is ConfRev, SqNum, TimeofEntry or Owner;
@@ -349,7 +373,7 @@ impl Block {
     ///   `known`, which says that it names a set, for an EntryID that is neither zero nor of a retained entry,
     ///   and for a ResvTms below 0 or above 32767.
     ///
-    /// `kept` tells which entries are retained. A refused write changes nothing. It takes no memory.
+    /// `kept` says which entries are retained. A refused write changes nothing. It takes no memory.
     pub fn write(
         &mut self,
         a: AssocNo,
@@ -361,8 +385,10 @@ impl Block {
         known: bool,
     ) -> Result<Effect, u8>
         requires { (1 ≤ a.0) × (a.0 ≤ 64) }
-        ensures answer { result ≡ answer_to a (is_foreign owner.now now self.old) comp value.now (names_nothing kept known comp value.now) self.old }
-        ensures written { OnOk result (self.new ≡ written a owner.now now comp value.now kept.front self.old) }
+        ensures answer { result ≡ answer_to a (is_foreign owner.now now self.old) comp value.now
+            (names_nothing kept known comp value.now) self.old }
+        ensures written { OnOk result
+            (self.new ≡ written a owner.now now comp value.now kept.front self.old) }
         ensures unchanged { OnErr result (self.new ≡ self.old) }
     {
         let foreign = self.is_reserved_for_another(owner, now);

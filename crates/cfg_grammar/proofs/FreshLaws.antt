@@ -26,7 +26,7 @@ fresh [] = []
 fresh (lines.Skip ∷ before) = fresh before
 fresh (line ∷ before) = renumbered (number_of (fresh before)) line ∷ fresh before
 
--- a line tells what it tells under any number
+-- a line says what it says under any number
 renumbered-facts : (n : ℕ) (line : Line) (f : Facts) → after (renumbered n line) f ≡ after line f
 renumbered-facts n lines.Skip f = refl
 renumbered-facts n lines.Config f = refl

@@ -1,4 +1,4 @@
--- Which line may stand behind others. The last line is the first of the list; an object has the number, the domain and the
+-- Which line may stand after others. The last line is the first of the list; an object has the number, the domain and the
 -- logical node of its place.
 use Rattle.std.specs.Prelude.{◌≡◌, ◌≤◌, ◌<◌, ◌⊎◌, ℕ, ◌==◌, true, false, List, [], length, codes, if◌then◌else◌}
 use Rattle.std.specs.List.{list_all, list_any, count_by}
@@ -28,7 +28,7 @@ use Rattle.cfg_lines.specs.declared.line.Line.TheVariants as lines
 use Rattle.cfg_lines.specs.declared.line.Place.TheVariants as places
 use Rattle.sv_base.specs.declared.ctl_models.TheConstants.{SBO_NORMAL, SBO_ENHANCED}
 
--- in a logical node, but not behind a `set` without a member
+-- in a logical node, but not after a `set` without a member
 abbrev pub IsInNode : List Line → Type 0
 IsInNode before = (place_of before ≡ places.InNode) ⊎ (place_of before ≡ places.InMembers)
 
@@ -147,7 +147,7 @@ Follows before (lines.Ctl control) = IsControl before control
 Follows before (lines.Sgcb groups) = IsGroups before groups
 Follows before lines.End = IsBetween before
 
--- a line that tells this, behind those before it
+-- a line that says this, after those before it
 pub record IsLine (before : List Line) (text : List ℕ) (line : Line) : Type 0 where
   pub short : length text ≤ 1000
   pub room : length before < 20000

@@ -1,4 +1,4 @@
--- A configuration as a text: its lines one behind another, and what they make.
+-- A configuration as a text: its lines one after another, and what they make.
 use Rattle.std.specs.Prelude.{◌≡◌, ◌⊎◌, ℕ, true, List, [], ◌∷◌, ◌++◌}
 use Rattle.sv_base.specs.declared.config.Config.{Config}
 use Rattle.cfg_lines.specs.Keys.{is_among}

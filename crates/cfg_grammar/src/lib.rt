@@ -1,4 +1,4 @@
-//! The format of a configuration as a relation: which texts spell a line, which line may stand behind others, and which text
+//! The format of a configuration as a relation: which texts spell a line, which line may stand after others, and which text
 //! spells which configuration.
 //!
 //! The definitions stand in `specs/`, and have no code.

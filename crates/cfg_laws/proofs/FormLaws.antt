@@ -85,7 +85,7 @@ text-is before text (forms.Ctl path model timeout class kind) real is = is
 text-is before text (forms.Sgcb count active) real is = is
 text-is before text forms.End real is = is
 
--- how many values an attribute has, by the words behind its functional constraint
+-- how many values an attribute has, by the words after its functional constraint
 abbrev HasMany : List Line → List ℕ → ℕ → Type 0
 HasMany before fc n = ((fc ≡ codes "SG" → ⊥) × (n ≡ 4)) ⊎ (((fc ≡ codes "SG") × (groups_of before ≡ 0) × (4 ≤ n)) ⊎ ((fc ≡ codes "SG") × (1 ≤ groups_of before) × (n ≡ groups_of before + 3)))
 

@@ -1,4 +1,4 @@
--- What the words behind the first are refused for is the kind of the first that isn't right.
+-- What the words after the first are refused for is the kind of the first that isn't right.
 use Rattle.std.proofs.Common.{◌≡◌, ℕ, ◌<◌, ◌≤◌, ◌^◌, ◌↔◌, inl, inr, Bool, false, List, refl, sym, ap, subst, ◌∙◌, arith}
 use Rattle.std.specs.Prelude.{Option, Some, None, Result, Ok, codes, unwrap_or}
 use Rattle.std.specs.Fmt.{decimal}

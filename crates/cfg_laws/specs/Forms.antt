@@ -1,4 +1,4 @@
--- The forms of lines: the first word, and as many words behind it as the line has, whatever they are.
+-- The forms of lines: the first word, and as many words after it as the line has, whatever they are.
 use Rattle.std.specs.Prelude.{◌≡◌, ◌≤◌, ◌⊎◌, ◌&&◌, nat_le, ℕ, Bool, true, List, [], ◌∷◌, length, codes}
 use Rattle.std.specs.List.{list_all, join_with_byte}
 use Rattle.text_words.specs.Octets.{IsSkipped}

@@ -1,4 +1,4 @@
--- For which kind the line behind others is refused: its length first, then its words' form, its place, limits, and then word
+-- For which kind the line after others is refused: its length first, then its words' form, its place, limits, and then word
 -- by word. The last line is the first of the list.
 use Rattle.std.specs.Prelude.{◌≡◌, ◌≤◌, ◌<◌, ◌⊎◌, ℕ, nat_lt, true, false, List, [], ◌∷◌, length, codes}
 use Rattle.std.specs.List.{list_any, count_by}
@@ -100,6 +100,6 @@ IsJudged before form kind = Else kind kinds.order (Stands before form) (Else kin
 abbrev pub IsUnformed : List Line → List ℕ → ℕ → Type 0
 IsUnformed before text kind = ((HasForm before text → ⊥) × (kind ≡ kinds.word)) ⊎ ((form : Form) × IsText before text form × IsJudged before form kind)
 
--- the line of this text, without its newline, is refused behind these lines for this kind
+-- the line of this text, without its newline, is refused after these lines for this kind
 abbrev pub IsRefusedLine : List Line → List ℕ → ℕ → Type 0
 IsRefusedLine before text kind = (IsLong before text × (kind ≡ kinds.long)) ⊎ ((IsLong before text → ⊥) × IsUnformed before text kind)

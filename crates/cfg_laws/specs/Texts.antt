@@ -28,7 +28,7 @@ pub record HasRefused (text : List ℕ) (line kind : ℕ) : Type 0 where
   pub number : line ≡ number_of before
   pub cause : IsRefusedLine before last kind
 
--- All lines are of the format, and the last isn't `end`, or there are octets behind it that no newline ends.
+-- All lines are of the format, and the last isn't `end`, or there are octets after it that no newline ends.
 pub record EndsEarly (text : List ℕ) (line kind : ℕ) : Type 0 where
   pub front : List ℕ
   pub rest : List ℕ

@@ -16,7 +16,7 @@ use Rattle.cfg_laws.specs.Names.{AnyIs, IsAmong, IsName, IsPath, IsReference, Is
 use Rattle.cfg_laws.specs.Forms.{Form}
 use Rattle.cfg_laws.specs.Forms as forms
 
--- This is the kind where the first isn't right; else what follows tells it.
+-- This is the kind where the first isn't right; else what follows says it.
 abbrev pub Else : ℕ → ℕ → Type 0 → Type 0 → Type 0
 Else kind cause Right After = ((Right → ⊥) × (kind ≡ cause)) ⊎ (Right × After)
 
@@ -54,7 +54,7 @@ IsFreeControl before path word = (model : ℕ) × IsModel word model × (AnyIs (
 abbrev pub IsActive : List ℕ → List ℕ → Type 0
 IsActive count active = (n : ℕ) × (count ≡ decimal n) × (n ≤ 16) × IsNumber 1 n active
 
--- Behind these lines, in a line of this form that may stand there, the first word that isn't right is of this kind.
+-- After these lines, in a line of this form that may stand there, the first word that isn't right is of this kind.
 abbrev pub IsWrong : List Line → Form → ℕ → Type 0
 IsWrong before (forms.Config version) kind = Else kind kinds.number (IsNumber 1 1 version) ⊥
 IsWrong before (forms.Ld name) kind =

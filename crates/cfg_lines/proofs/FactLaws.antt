@@ -1,4 +1,4 @@
--- What the lines before a line tell of it, with one more line.
+-- What the lines before a line say of it, with one more line.
 use Rattle.std.proofs.Common.{◌≡◌, List, ◌∷◌, refl}
 use Rattle.cfg_lines.specs.Facts.{facts_of, after}
 use Rattle.cfg_lines.specs.declared.line.Line.{Line}

@@ -1,4 +1,4 @@
--- What the lines before a line tell of it. The last line is the first of the list.
+-- What the lines before a line say of it. The last line is the first of the list.
 use Rattle.std.specs.Prelude.{ℕ, ◌+◌, Bool, true, false, List, [], ◌∷◌, length, codes, if◌then◌else◌}
 use Rattle.std.specs.Str.{bytes_eq}
 use Rattle.cfg_lines.specs.declared.line.Line.{Line}
@@ -6,11 +6,11 @@ use Rattle.cfg_lines.specs.declared.line.Line.TheVariants as lines
 use Rattle.cfg_lines.specs.declared.line.Place.{Place}
 use Rattle.cfg_lines.specs.declared.line.Place.TheVariants as places
 
--- the number of the line behind these
+-- the number of the line after these
 abbrev pub number_of : List Line → ℕ
 number_of before = length before + 1
 
--- where the line behind these stands, by the last that isn't skipped
+-- where the line after these stands, by the last that isn't skipped
 abbrev pub place_of : List Line → Place
 place_of [] = places.Start
 place_of (lines.Skip ∷ before) = place_of before

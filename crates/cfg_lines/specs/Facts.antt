@@ -1,4 +1,4 @@
--- What the lines before a line tell of it, in one: what stays and what changes with one more line.
+-- What the lines before a line say of it, in one: what stays and what changes with one more line.
 use Rattle.std.specs.Prelude.{ℕ, ◌+◌, Bool, true, false, List, [], codes, if◌then◌else◌}
 use Rattle.std.specs.Str.{bytes_eq}
 use Rattle.cfg_lines.specs.Before as before

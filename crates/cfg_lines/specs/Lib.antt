@@ -1,4 +1,4 @@
--- what a line tells, what it takes and makes, and what the lines before it tell of it
+-- what a line says, what it takes and makes, and what the lines before it say of it
 pub mod Keys
 pub mod Paths
 pub mod Before

@@ -8,7 +8,7 @@ use Rattle.sv_base.specs.declared.types.TypeOf.TheVariants as types
 use Rattle.cfg_lines.specs.Keys.{added}
 use Rattle.cfg_lines.specs.declared.leaf.Leaf.{Leaf}
 
--- the octets of Data with so many octets of content
+-- the octets of Data with n octets of content
 abbrev pub element_octets : ℕ → ℕ
 element_octets content = 1 + (length (length_field content) + content)
 

@@ -37,7 +37,7 @@ impl Keys {
         }
     }
 
-    /// There is none, and room for so many with so many octets together.
+    /// There is none, and memory for that many, with that many octets together.
     fn with_capacity(alloc: Global, keys: usize, octets: usize) -> Result<Keys, AllocError>
         ensures { IfOk result (λ k. k ≡ []) }
     {
@@ -63,7 +63,8 @@ impl Keys {
 
     /// Adds a key, which may be there already.
     pub fn add(&mut self, key: &[u8]) -> Result<(), AllocError>
-        ensures among { OnOk result ((q : List ℕ) → is_among self.new q ≡ (bytes_eq q key.now || is_among self.old q)) }
+        ensures among { OnOk result ((q : List ℕ)
+            → is_among self.new q ≡ (bytes_eq q key.now || is_among self.old q)) }
         ensures items { OnOk result (self.new ≡ added self.old key.now) }
     {
         self.add_by(hash_of(key), key)
@@ -72,7 +73,8 @@ impl Keys {
     /// Adds the key of this number, which may be there already.
     fn add_by(&mut self, hash: u64, key: &[u8]) -> Result<(), AllocError>
         requires { hash ≡ hash_at key.now }
-        ensures among { OnOk result ((q : List ℕ) → is_among self.new q ≡ (bytes_eq q key.now || is_among self.old q)) }
+        ensures among { OnOk result ((q : List ℕ)
+            → is_among self.new q ≡ (bytes_eq q key.now || is_among self.old q)) }
         ensures items { OnOk result (self.new ≡ added self.old key.now) }
     {
         if self.has_by(hash, key) {
@@ -91,7 +93,8 @@ impl Keys {
 
     /// The number of a path; none exactly where a structure above it is there.
     fn number_of_free(&self, path: &[u8]) -> Option<u64>
-        ensures { result ≡ (if list_any (λ front. is_among self.now front) (above path.now) then None else Some (hash_at path.now)) }
+        ensures { result ≡ (if list_any (λ front. is_among self.now front) (above path.now)
+            then None else Some (hash_at path.now)) }
     {
         let mut hash = RowHash::new();
         for (i, octet) in path.iter().enumerate() {
@@ -105,7 +108,8 @@ impl Keys {
 
     /// The path, or a structure above it, is there.
     pub fn has_or_above(&self, path: &[u8]) -> bool
-        ensures { result ≡ (is_among self.now path.now || list_any (λ front. is_among self.now front) (above path.now)) }
+        ensures { result ≡ (is_among self.now path.now || list_any
+            (λ front. is_among self.now front) (above path.now)) }
     {
         match self.number_of_free(path) {
             Some(hash) => self.has_by(hash, path),
@@ -116,7 +120,8 @@ impl Keys {
     /// Adds the structures above a path, and gives the path's number.
     fn add_above(&mut self, path: &[u8]) -> Result<u64, AllocError>
         ensures number { IfOk result (λ hash. hash ≡ hash_at path.now) }
-        ensures among { OnOk result ((q : List ℕ) → is_among self.new q ≡ (is_among (above path.now) q || is_among self.old q)) }
+        ensures among { OnOk result ((q : List ℕ)
+            → is_among self.new q ≡ (is_among (above path.now) q || is_among self.old q)) }
     {
         let mut hash = RowHash::new();
         for (i, octet) in path.iter().enumerate() {
@@ -137,7 +142,9 @@ impl Keys {
 
     /// Adds a path and the structures above it.
     pub fn add_with_above(&mut self, path: &[u8]) -> Result<(), AllocError>
-        ensures { OnOk result ((q : List ℕ) → is_among self.new q ≡ ((bytes_eq q path.now || is_among (above path.now) q) || is_among self.old q)) }
+        ensures { OnOk result ((q : List ℕ)
+            → is_among self.new q ≡ ((bytes_eq q path.now || is_among (above path.now) q)
+            || is_among self.old q)) }
     {
         let hash = self.add_above(path)?;
         self.add_by(hash, path)
@@ -146,7 +153,8 @@ impl Keys {
 
 /// Adds a path to the paths, and the structures above it to the structures.
 fn add_path(paths: &mut Keys, structures: &mut Keys, path: &[u8]) -> Result<(), AllocError>
-    ensures structures { OnOk result ((q : List ℕ) → is_among structures.new q ≡ (is_among (above path.now) q || is_among structures.old q)) }
+    ensures structures { OnOk result ((q : List ℕ)
+        → is_among structures.new q ≡ (is_among (above path.now) q || is_among structures.old q)) }
     ensures paths { OnOk result (paths.new ≡ added paths.old path.now) }
 {
     let hash = structures.add_above(path)?;
@@ -189,7 +197,7 @@ impl Names {
         }
     }
 
-    /// None is taken, and there is room for so many with so many octets together.
+    /// None is taken, and there is capacity for that many, with that many octets together.
     pub fn with_capacity(alloc: Global, names: usize, octets: usize) -> Result<Names, AllocError>
         ensures { IfOk result (λ n. n ≡ []) }
     {
@@ -211,7 +219,8 @@ impl Names {
 
     /// One more path is taken from now on. Without memory none is any longer.
     pub fn add(&mut self, alloc: Global, path: &[u8]) -> Result<(), AllocError>
-        ensures { OnOk result ((q : List ℕ) → is_taken_by self.new q ≡ (clashes q path.now || is_taken_by self.old q)) }
+        ensures { OnOk result ((q : List ℕ)
+            → is_taken_by self.new q ≡ (clashes q path.now || is_taken_by self.old q)) }
     {
         let Ok(()) = add_path(&mut self.paths, &mut self.structures, path) else {
             *self = Names::new(alloc);
@@ -222,7 +231,9 @@ impl Names {
 
     /// More paths are taken. Without memory none is any longer.
     pub fn add_all(&mut self, alloc: Global, paths: &[Vec<u8>]) -> Result<(), AllocError>
-        ensures { OnOk result ((q : List ℕ) → is_taken_by self.new q ≡ (is_taken_by (map octets_of paths.now) q || is_taken_by self.old q)) }
+        ensures { OnOk result ((q : List ℕ)
+            → is_taken_by self.new q ≡ (is_taken_by (map octets_of paths.now) q
+            || is_taken_by self.old q)) }
     {
         for path in paths {
             self.add(alloc, path)?;

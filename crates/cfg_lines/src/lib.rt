@@ -1,4 +1,4 @@
-//! The lines of a configuration: what each tells, and what those before a line tell of it; the references that they take, and
+//! The lines of a configuration: what each says, and what those before a line say of it; the references that they take, and
 //! the nodes and the configuration that they make.
 //!
 //! The definitions in `specs/` are those on which the reading, the format and the writing of configurations agree.

@@ -1,8 +1,8 @@
-//! What a line of a configuration tells, and where it may stand.
+//! What a line of a configuration says, and where it may stand.
 
 use sv_base::{AttrDef, BlockDef, CtlDef, LnDef, Octs, SetDef, SgDef};
 
-/// What a line tells. What is made by it has its number, and the domain and logical node in which it stands.
+/// What a line says. What is made by it has its number, and the domain and logical node in which it stands.
 #[derive(Drop)]
 pub enum Line {
     /// It is empty, or a remark.
@@ -31,18 +31,18 @@ pub enum Line {
 pub enum Place {
     /// Before `config`.
     Start,
-    /// Behind `config`.
+    /// After `config`.
     Configured,
-    /// Behind `server`.
+    /// After `server`.
     Served,
-    /// Behind `ld`.
+    /// After `ld`.
     InDomain,
     /// In a logical node, and not in a data set.
     InNode,
-    /// Behind `set`.
+    /// After `set`.
     InSet,
-    /// Behind `member`.
+    /// After `member`.
     InMembers,
-    /// Behind `end`.
+    /// After `end`.
     Ended,
 }

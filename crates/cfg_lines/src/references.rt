@@ -5,13 +5,15 @@ ghost use Rattle.sv_base.specs.declared.parameters.CtlParameter.TheVariants.{Sbo
 ghost use Rattle.sv_base.specs.Parameters.{parameter_name};
 ghost use Rattle.sv_base.specs.CtlServices.{service_name};
 ghost use Rattle.cfg_lines.specs.Keys.{octets_of};
-ghost use Rattle.cfg_lines.specs.Paths.{below as below_front, node_key as node_key_of, item_key as item_key_of};
-ghost use Rattle.cfg_lines.specs.Claims.{operations, settings, control_keys as control_keys_of, group_key as group_key_of};
+ghost use Rattle.cfg_lines.specs.Paths.{below as below_front, node_key as node_key_of};
+ghost use Rattle.cfg_lines.specs.Paths.{item_key as item_key_of};
+ghost use Rattle.cfg_lines.specs.Claims.{operations, settings, control_keys as control_keys_of};
+ghost use Rattle.cfg_lines.specs.Claims.{group_key as group_key_of};
 
 use std::alloc::{AllocError, Global};
 use sv_base::{CtlParameter, CtlService, ctl_models};
 
-/// Adds a name below what a room holds.
+/// Adds a name below what a buffer holds.
 fn extend_below(room: &mut Vec<u8>, name: &[u8]) -> Result<(), AllocError>
     ensures { OnOk result (room.new.items ≡ below_front room.old.items name.now) }
 {
@@ -19,7 +21,7 @@ fn extend_below(room: &mut Vec<u8>, name: &[u8]) -> Result<(), AllocError>
     room.extend_from_slice(name)
 }
 
-/// Makes a room hold the reference of a logical node.
+/// Makes a buffer hold the reference of a logical node.
 pub fn put_node_key(room: &mut Vec<u8>, domain: &[u8], node: &[u8]) -> Result<(), AllocError>
     ensures { OnOk result (room.new.items ≡ node_key_of domain.now node.now) }
 {
@@ -29,7 +31,7 @@ pub fn put_node_key(room: &mut Vec<u8>, domain: &[u8], node: &[u8]) -> Result<()
     room.extend_from_slice(node)
 }
 
-/// A room for the reference of a logical node, with so many octets more, that has the reference.
+/// A buffer for the reference of a logical node, with n octets more, that has the reference.
 fn node_room(alloc: Global, domain: &[u8], node: &[u8], more: usize) -> Result<Vec<u8>, AllocError>
     ensures { IfOk result (λ v. v.items ≡ node_key_of domain.now node.now) }
 {
@@ -71,7 +73,7 @@ pub fn node_item(
     Ok(key)
 }
 
-/// Makes a room hold the reference of a path under a functional constraint of a logical node.
+/// Makes a buffer hold the reference of a path under a functional constraint of a logical node.
 pub fn put_item_key(
     room: &mut Vec<u8>,
     domain: &[u8],
@@ -116,7 +118,8 @@ fn push_below(
     front: &[u8],
     name: &[u8],
 ) -> Result<(), AllocError>
-    ensures { OnOk result (map octets_of keys.new.items ≡ map octets_of keys.old.items ++ below_front front.now name.now ∷ []) }
+    ensures { OnOk result (map octets_of keys.new.items ≡ map octets_of keys.old.items
+        ++ below_front front.now name.now ∷ []) }
 {
     let key = below(alloc, front, name)?;
     keys.push(key)?;
@@ -129,7 +132,8 @@ fn push_service(
     front: &[u8],
     service: CtlService,
 ) -> Result<(), AllocError>
-    ensures { OnOk result (map octets_of keys.new.items ≡ map octets_of keys.old.items ++ below_front front.now (service_name service) ∷ []) }
+    ensures { OnOk result (map octets_of keys.new.items ≡ map octets_of keys.old.items
+        ++ below_front front.now (service_name service) ∷ []) }
 {
     push_below(alloc, keys, front, service.name())
 }
@@ -141,7 +145,8 @@ fn push_operations(
     front: &[u8],
     model: u32,
 ) -> Result<(), AllocError>
-    ensures { OnOk result (map octets_of keys.new.items ≡ map octets_of keys.old.items ++ map (λ part. below_front front.now part) (operations model)) }
+    ensures { OnOk result (map octets_of keys.new.items ≡ map octets_of keys.old.items
+        ++ map (λ part. below_front front.now part) (operations model)) }
 {
     push_service(alloc, keys, front, CtlService::Oper)?;
     if model == u32::from(ctl_models::SBO_NORMAL) {
@@ -161,14 +166,16 @@ fn push_parameter(
     front: &[u8],
     parameter: CtlParameter,
 ) -> Result<(), AllocError>
-    ensures { OnOk result (map octets_of keys.new.items ≡ map octets_of keys.old.items ++ below_front front.now (parameter_name parameter) ∷ []) }
+    ensures { OnOk result (map octets_of keys.new.items ≡ map octets_of keys.old.items
+        ++ below_front front.now (parameter_name parameter) ∷ []) }
 {
     push_below(alloc, keys, front, parameter.name())
 }
 
 /// What a control that is selected first has besides under CF.
 fn push_selection(alloc: Global, keys: &mut Vec<Vec<u8>>, front: &[u8]) -> Result<(), AllocError>
-    ensures { OnOk result (map octets_of keys.new.items ≡ map octets_of keys.old.items ++ map (λ part. below_front front.now part)
+    ensures { OnOk result (map octets_of keys.new.items ≡ map octets_of keys.old.items
+        ++ map (λ part. below_front front.now part)
         (parameter_name SboTimeout ∷ parameter_name SboClass ∷ [])) }
 {
     push_parameter(alloc, keys, front, CtlParameter::SboTimeout)?;
@@ -183,7 +190,8 @@ fn push_settings(
     front: &[u8],
     model: u32,
 ) -> Result<(), AllocError>
-    ensures { OnOk result (map octets_of keys.new.items ≡ map octets_of keys.old.items ++ map (λ part. below_front front.now part) (settings model)) }
+    ensures { OnOk result (map octets_of keys.new.items ≡ map octets_of keys.old.items
+        ++ map (λ part. below_front front.now part) (settings model)) }
 {
     push_parameter(alloc, keys, front, CtlParameter::CtlModel)?;
     if model == u32::from(ctl_models::SBO_NORMAL) {
@@ -203,7 +211,8 @@ pub fn control_keys(
     path: &[u8],
     model: u32,
 ) -> Result<Vec<Vec<u8>>, AllocError>
-    ensures { IfOk result (λ v. map octets_of v.items ≡ control_keys_of domain.now node.now path.now model) }
+    ensures { IfOk result (λ v. map octets_of v.items
+        ≡ control_keys_of domain.now node.now path.now model) }
 {
     let mut keys = Vec::new(alloc);
     let operated = item_key(alloc, domain, node, b"CO", path)?;

@@ -52,7 +52,8 @@ fn head_of(reference: &[u8]) -> &[u8]
 /// Adds a reference and its head.
 fn add_both(references: &mut Keys, heads: &mut Keys, reference: &[u8]) -> Result<(), AllocError>
     ensures references { OnOk result (references.new ≡ added references.old reference.now) }
-    ensures heads { OnOk result ((q : List ℕ) → is_among heads.new q ≡ (bytes_eq q (head reference.now) || is_among heads.old q)) }
+    ensures heads { OnOk result ((q : List ℕ)
+        → is_among heads.new q ≡ (bytes_eq q (head reference.now) || is_among heads.old q)) }
 {
     heads.add(head_of(reference))?;
     references.add(reference)
@@ -91,7 +92,7 @@ impl Asked {
         self.references.has_or_above(name)
     }
 
-    /// A member may name something of a logical node, whose reference is joined in a room.
+    /// A member may name something of a logical node, whose reference is joined in a buffer.
     pub fn may_want(
         &self,
         room: &mut Vec<u8>,

@@ -6,7 +6,8 @@ ghost use Rattle.sv_base.specs.declared.ctl_services.CtlService.TheVariants as s
 ghost use Rattle.sv_base.specs.CtlServices.{service_name};
 ghost use Rattle.cfg_lines.specs.Claims.{operations, group_key as group_key_of};
 ghost use Rattle.cfg_lines.specs.Paths.{below as below_front, item_key as item_key_of};
-ghost use Rattle.cfg_lines.specs.Nodes.{all_below, with_parts, block_parts, group_parts, operation_parts, operations_below, twins, closed_by};
+ghost use Rattle.cfg_lines.specs.Nodes.{all_below, with_parts, block_parts, group_parts};
+ghost use Rattle.cfg_lines.specs.Nodes.{operation_parts, operations_below, twins, closed_by};
 ghost use Rattle.cfg_lines.specs.Nodes.{closed as closed_before};
 
 use cfg_lines::{Line, below, group_key, item_key};
@@ -21,7 +22,8 @@ fn push_below(
     front: &[u8],
     name: &[u8],
 ) -> Result<(), AllocError>
-    ensures { OnOk result (names.new.items ≡ names.old.items ++ below_front front.now name.now ∷ []) }
+    ensures { OnOk result (names.new.items ≡ names.old.items
+        ++ below_front front.now name.now ∷ []) }
 {
     let name = Octs::from_vec(below(alloc, front, name)?);
     names.push(name)?;
@@ -56,7 +58,8 @@ fn push_parts(
     front: &[u8],
     parts: &[CallPart],
 ) -> Result<(), AllocError>
-    ensures { OnOk result (names.new.items ≡ names.old.items ++ all_below front.now (map part_name parts.now)) }
+    ensures { OnOk result (names.new.items ≡ names.old.items ++ all_below front.now
+        (map part_name parts.now)) }
 {
     for part in parts {
         push_below(alloc, names, front, part.name())?;
@@ -71,7 +74,8 @@ fn push_operation(
     service: CtlService,
     parts: &[CallPart],
 ) -> Result<(), AllocError>
-    ensures { OnOk result (names.new.items ≡ names.old.items ++ with_parts (below_front front.now (service_name service)) (map part_name parts.now)) }
+    ensures { OnOk result (names.new.items ≡ names.old.items ++ with_parts
+        (below_front front.now (service_name service)) (map part_name parts.now)) }
 {
     let node = below(alloc, front, service.name())?;
     names.push(Octs::copied(alloc, &node)?)?;
@@ -87,8 +91,10 @@ fn push_selection(
     parts: &[CallPart],
 ) -> Result<(), AllocError>
     ensures { OnOk result (names.new.items ≡ names.old.items ++
-        (with_parts (below_front front.now (service_name select)) (map part_name parts.now) ++ with_parts
-        (below_front front.now (service_name services.Cancel)) (operation_parts (service_name services.Cancel)))) }
+        (with_parts (below_front front.now (service_name select))
+        (map part_name parts.now) ++ with_parts
+        (below_front front.now (service_name services.Cancel))
+        (operation_parts (service_name services.Cancel)))) }
 {
     push_operation(alloc, names, front, select, parts)?;
     push_operation(alloc, names, front, CtlService::Cancel, &CallPart::ALL[..6])?;
@@ -102,7 +108,8 @@ fn push_operations(
     front: &[u8],
     model: u8,
 ) -> Result<(), AllocError>
-    ensures { OnOk result (names.new.items ≡ names.old.items ++ operations_below front.now (operations model)) }
+    ensures { OnOk result (names.new.items ≡ names.old.items ++ operations_below front.now
+        (operations model)) }
 {
     push_operation(alloc, names, front, CtlService::Oper, &CallPart::ALL)?;
     if model == ctl_models::SBO_NORMAL {
@@ -122,7 +129,8 @@ fn push_operations(
 
 fn push_control(alloc: Global, names: &mut Vec<Octs>, control: &CtlDef) -> Result<(), AllocError>
     ensures { OnOk result (names.new.items ≡ names.old.items ++ operations_below
-        (item_key_of control.now.domain control.now.ln (codes "CO") control.now.path) (operations control.now.model)) }
+        (item_key_of control.now.domain control.now.ln (codes "CO") control.now.path)
+        (operations control.now.model)) }
 {
     let front = item_key(
         alloc,
@@ -167,7 +175,8 @@ fn push_block(alloc: Global, names: &mut Vec<Octs>, block: &BlockDef) -> Result<
 }
 
 fn push_groups(alloc: Global, names: &mut Vec<Octs>, groups: &SgDef) -> Result<(), AllocError>
-    ensures { OnOk result (names.new.items ≡ names.old.items ++ with_parts (group_key_of groups.now.domain (codes "LLN0")) group_parts) }
+    ensures { OnOk result (names.new.items ≡ names.old.items ++ with_parts
+        (group_key_of groups.now.domain (codes "LLN0")) group_parts) }
 {
     let node = group_key(alloc, groups.domain.as_slice())?;
     names.push(Octs::copied(alloc, &node)?)?;

@@ -1,4 +1,4 @@
-//! Nodes without parts, whose names lie one behind the other.
+//! Nodes without parts, whose names lie one after the other.
 
 use octet_rows::Rows;
 use std::alloc::{AllocError, Global};
@@ -24,9 +24,10 @@ impl Model for Leaves {
 }
 
 impl Leaves {
-    ghost use Rattle.std.specs.Prelude.{◌≡◌, ◌++◌, ◌∷◌, [], length, map, slice_get, unwrap_or, IfOk, OnOk};
+    ghost use Rattle.std.specs.Prelude.{◌≡◌, ◌++◌, ◌∷◌, [], length, map, slice_get, unwrap_or};
+    ghost use Rattle.std.specs.Prelude.{IfOk, OnOk};
 
-    /// There is none, and room for so many, at 32 octets a name.
+    /// There is none, and memory for that many, at 32 octets a name.
     pub fn with_capacity(alloc: Global, leaves: usize) -> Result<Leaves, AllocError>
         ensures { IfOk result (λ l. l ≡ []) }
     {
@@ -59,7 +60,8 @@ impl Leaves {
 
     /// Adds a node.
     pub fn push(&mut self, name: &[u8], octets: u32) -> Result<(), AllocError>
-        ensures { OnOk result (self.new ≡ self.old ++ (record { name = name.now; octets = octets }) ∷ []) }
+        ensures { OnOk result (self.new ≡ self.old
+            ++ (record { name = name.now; octets = octets }) ∷ []) }
     {
         let len = self.names.len();
         self.names.push(name)?;

@@ -6,7 +6,8 @@ ghost use Rattle.sv_base.specs.declared.parameters.CtlParameter.TheVariants.{Sbo
 ghost use Rattle.sv_base.specs.Parameters.{parameter_name, parameter_kind};
 ghost use Rattle.cfg_lines.specs.Claims.{settings};
 ghost use Rattle.cfg_lines.specs.Paths.{below as below_front, item_key as item_key_of};
-ghost use Rattle.cfg_lines.specs.Sizes.{element_octets as element_octets_of, most_octets as most_octets_of};
+ghost use Rattle.cfg_lines.specs.Sizes.{element_octets as element_octets_of};
+ghost use Rattle.cfg_lines.specs.Sizes.{most_octets as most_octets_of};
 ghost use Rattle.cfg_lines.specs.Nodes.{leaves_by, leaves as leaves_before, setting_leaf};
 ghost use Rattle.cfg_nodes.specs.Asked.{wanted, IsRight};
 
@@ -17,7 +18,7 @@ use cfg_lines::{Line, below, item_key, put_item_key};
 use std::alloc::{AllocError, Global};
 use sv_base::{AttrDef, CtlDef, CtlParameter, TypeOf, ctl_models};
 
-/// The octets of Data with so many octets of content.
+/// The octets of Data with n octets of content.
 pub fn element_octets(content: u32) -> u32
     requires { content < 65536 }
     ensures { result ≡ element_octets_of content }
@@ -54,7 +55,8 @@ fn push_wanted(
     name: &[u8],
     octets: u32,
 ) -> Result<(), AllocError>
-    ensures { OnOk result (leaves.new ≡ leaves.old ++ wanted asked.now ((record { name = name.now; octets = octets }) ∷ [])) }
+    ensures { OnOk result (leaves.new ≡ leaves.old ++ wanted asked.now
+        ((record { name = name.now; octets = octets }) ∷ [])) }
 {
     if asked.wants(name) {
         return leaves.push(name, octets);
@@ -62,7 +64,7 @@ fn push_wanted(
     Ok(())
 }
 
-/// Adds the node of an attribute, whose name is joined in a room, if there is something to be found in its logical node.
+/// Adds the node of an attribute, whose name is joined in a buffer, if there is something to be found in its logical node.
 fn push_attribute<'a>(
     room: &mut Vec<u8>,
     spot: &mut Spot<'a>,
@@ -73,7 +75,10 @@ fn push_attribute<'a>(
     requires spot { IsRight asked.now spot.old }
     ensures spot { OnOk result (IsRight asked.now spot.new) }
     ensures leaves { OnOk result (leaves.new ≡ leaves.old ++ wanted asked.now
-        ((record { name = item_key_of attr.now.domain attr.now.ln attr.now.fc attr.now.path; octets = most_octets_of attr.now.kind }) ∷ [])) }
+        ((record {
+          name = item_key_of attr.now.domain attr.now.ln attr.now.fc attr.now.path;
+          octets = most_octets_of attr.now.kind;
+        }) ∷ [])) }
 {
     spot.turn_to(room, asked, attr.domain.as_slice(), attr.ln.as_slice())?;
     if !spot.is_wanted {
@@ -97,7 +102,10 @@ fn push_setting(
     parameter: CtlParameter,
 ) -> Result<(), AllocError>
     ensures { OnOk result (leaves.new ≡ leaves.old ++ wanted asked.now
-        ((record { name = below_front front.now (parameter_name parameter); octets = most_octets_of (parameter_kind parameter) }) ∷ [])) }
+        ((record {
+          name = below_front front.now (parameter_name parameter);
+          octets = most_octets_of (parameter_kind parameter);
+        }) ∷ [])) }
 {
     let octets = most_octets(&parameter.kind());
     let name = below(alloc, front, parameter.name())?;
@@ -127,7 +135,8 @@ fn push_settings(
     front: &[u8],
     model: u8,
 ) -> Result<(), AllocError>
-    ensures { OnOk result (leaves.new ≡ leaves.old ++ wanted asked.now (map (setting_leaf front.now) (settings model))) }
+    ensures { OnOk result (leaves.new ≡ leaves.old ++ wanted asked.now (map (setting_leaf front.now)
+        (settings model))) }
 {
     push_setting(alloc, leaves, asked, front, CtlParameter::CtlModel)?;
     if model == ctl_models::SBO_NORMAL {
@@ -146,7 +155,8 @@ fn push_control(
     control: &CtlDef,
 ) -> Result<(), AllocError>
     ensures { OnOk result (leaves.new ≡ leaves.old ++ wanted asked.now
-        (map (setting_leaf (item_key_of control.now.domain control.now.ln (codes "CF") control.now.path)) (settings control.now.model))) }
+        (map (setting_leaf (item_key_of control.now.domain control.now.ln
+        (codes "CF") control.now.path)) (settings control.now.model))) }
 {
     let front = item_key(
         alloc,
@@ -168,7 +178,8 @@ fn push_leaves<'a>(
 ) -> Result<(), AllocError>
     requires spot { IsRight asked.now spot.old }
     ensures spot { OnOk result (IsRight asked.now spot.new) }
-    ensures leaves { OnOk result (leaves.new ≡ leaves.old ++ wanted asked.now (leaves_by line.now)) }
+    ensures leaves { OnOk result (leaves.new ≡ leaves.old ++ wanted asked.now
+        (leaves_by line.now)) }
 {
     match line {
         Line::Attr(attr) => push_attribute(room, spot, leaves, asked, attr),
@@ -179,7 +190,8 @@ fn push_leaves<'a>(
 
 /// What lines make, from the first to the last, if it is asked for or has above it what is.
 pub fn leaves_of(alloc: Global, lines: &[Line], asked: &Asked) -> Result<Leaves, AllocError>
-    ensures { IfOk result (λ leaves. leaves ≡ wanted asked.now (leaves_before (reverse lines.now))) }
+    ensures { IfOk result (λ leaves. leaves ≡ wanted asked.now
+        (leaves_before (reverse lines.now))) }
 {
     let mut leaves = Leaves::with_capacity(alloc, lines.len())?;
     let mut room = Vec::new(alloc);

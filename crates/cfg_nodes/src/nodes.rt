@@ -44,8 +44,10 @@ fn above_of(alloc: Global, names: &[Octs]) -> Result<Keys, AllocError>
 fn of_leaves<'a>(alloc: Global, leaves: &'a Leaves) -> Result<(Sizes<'a>, Parts<'a>), AllocError>
     ensures sizes { IfOk result (λ both. both.0.leaves.now ≡ leaves.now) }
     ensures structures { IfOk result (λ both. (node : List ℕ)
-        → is_among both.1.structures node ≡ list_any (λ name. is_among (above name) node) (map (λ leaf. leaf.name) leaves.now)) }
-    ensures parts { IfOk result (λ both. (node : List ℕ) → parts_in both.1 node ≡ children (map (λ leaf. leaf.name) leaves.now) node) }
+        → is_among both.1.structures node ≡ list_any (λ name. is_among (above name) node)
+        (map (λ leaf. leaf.name) leaves.now)) }
+    ensures parts { IfOk result (λ both. (node : List ℕ)
+        → parts_in both.1 node ≡ children (map (λ leaf. leaf.name) leaves.now) node) }
 {
     let octets = leaves.len().saturating_mul(32);
     let mut names = Index::with_capacity(alloc, leaves.len(), octets)?;
@@ -75,10 +77,13 @@ impl<'a> Nodes<'a> {
     /// The nodes that lines make, from the first to the last, by those without parts that are wanted. Each that a member names is
     /// found as if all were there.
     pub fn of(alloc: Global, lines: &[Line], leaves: &'a Leaves) -> Result<Self, AllocError>
-        requires { leaves.now ≡ wanted (asked (reverse lines.now)) (leaves_before (reverse lines.now)) }
-        ensures nodes { IfOk result (λ nodes. (node : List ℕ) → is_among (asked (reverse lines.now)) node ≡ true
+        requires { leaves.now ≡ wanted (asked (reverse lines.now))
+            (leaves_before (reverse lines.now)) }
+        ensures nodes { IfOk result (λ nodes. (node : List ℕ)
+            → is_among (asked (reverse lines.now)) node ≡ true
             → is_node_in nodes node ≡ is_node (reverse lines.now) node) }
-        ensures members { IfOk result (λ nodes. (node : List ℕ) → is_among (asked (reverse lines.now)) node ≡ true
+        ensures members { IfOk result (λ nodes. (node : List ℕ)
+            → is_among (asked (reverse lines.now)) node ≡ true
             → is_member_in nodes node ≡ is_member_node (reverse lines.now) node) }
     {
         let closed = above_of(alloc, &closed_of(alloc, lines)?)?;
@@ -99,7 +104,8 @@ impl<'a> Nodes<'a> {
 
     /// The most octets of the Data of a node, but 501 for all above 500. It goes no deeper than the number says.
     fn octets(&self, depth: u32, node: &[u8]) -> u32
-        ensures { result ≡ capped (octets_of depth (octets_in self.now.sizes) (parts_in self.now.parts) node.now) }
+        ensures { result ≡ capped (octets_of depth (octets_in self.now.sizes)
+            (parts_in self.now.parts) node.now) }
     {
         if depth == 0 {
             return 0;

@@ -41,7 +41,8 @@ impl<'a> Parts<'a> {
         requires within { IsWithin self.old above }
         ensures structures { OnOk result (self.new.structures ≡ self.old.structures) }
         ensures even { OnOk result (length self.new.parts.items ≡ length self.old.parts.items) }
-        ensures parts { OnOk result ((front : Option (List ℕ)) → IsPlaced self.old front above → (other : List ℕ)
+        ensures parts { OnOk result ((front : Option (List ℕ)) → IsPlaced self.old front above
+            → (other : List ℕ)
             → parts_in self.new other ≡ with_part other (parts_in self.old other) front part.now) }
     {
         if let Some(place) = above {
@@ -56,9 +57,12 @@ impl<'a> Parts<'a> {
         requires hash { hash ≡ hash_at node.now }
         requires even { length self.old.parts.items ≡ length self.old.structures }
         ensures place { IfOk result (λ place. place_in self.new.structures node.now ≡ Some place) }
-        ensures among { OnOk result ((q : List ℕ) → is_among self.new.structures q ≡ (bytes_eq q node.now || is_among self.old.structures q)) }
+        ensures among { OnOk result ((q : List ℕ)
+            → is_among self.new.structures q
+            ≡ (bytes_eq q node.now || is_among self.old.structures q)) }
         ensures even { OnOk result (length self.new.parts.items ≡ length self.new.structures) }
-        ensures parts { OnOk result ((other : List ℕ) → parts_in self.new other ≡ parts_in self.old other) }
+        ensures parts { OnOk result ((other : List ℕ)
+            → parts_in self.new other ≡ parts_in self.old other) }
     {
         if let Some(place) = self.structures.place_by(hash, node) {
             return Ok(place as usize);
@@ -81,9 +85,12 @@ impl<'a> Parts<'a> {
         requires even { length self.old.parts.items ≡ length self.old.structures }
         requires within { IsWithin self.old above }
         ensures place { IfOk result (λ place. place_in self.new.structures node.now ≡ Some place) }
-        ensures among { OnOk result ((q : List ℕ) → is_among self.new.structures q ≡ (bytes_eq q node.now || is_among self.old.structures q)) }
+        ensures among { OnOk result ((q : List ℕ)
+            → is_among self.new.structures q
+            ≡ (bytes_eq q node.now || is_among self.old.structures q)) }
         ensures even { OnOk result (length self.new.parts.items ≡ length self.new.structures) }
-        ensures parts { OnOk result ((front : Option (List ℕ)) → IsPlaced self.old front above → (other : List ℕ)
+        ensures parts { OnOk result ((front : Option (List ℕ)) → IsPlaced self.old front above
+            → (other : List ℕ)
             → parts_in self.new other ≡ with_part other (parts_in self.old other) front node.now) }
     {
         self.add_part(above, node)?;
@@ -95,9 +102,12 @@ impl<'a> Parts<'a> {
     pub fn add_path(&mut self, alloc: Global, path: &'a [u8]) -> Result<u64, AllocError>
         requires { length self.old.parts.items ≡ length self.old.structures }
         ensures number { IfOk result (λ hash. hash ≡ hash_at path.now) }
-        ensures among { OnOk result ((q : List ℕ) → is_among self.new.structures q ≡ (is_among (above path.now) q || is_among self.old.structures q)) }
+        ensures among { OnOk result ((q : List ℕ)
+            → is_among self.new.structures q ≡ (is_among (above path.now) q
+            || is_among self.old.structures q)) }
         ensures even { OnOk result (length self.new.parts.items ≡ length self.new.structures) }
-        ensures parts { OnOk result ((other : List ℕ) → parts_in self.new other ≡ with_name other (parts_in self.old other) path.now) }
+        ensures parts { OnOk result ((other : List ℕ)
+            → parts_in self.new other ≡ with_name other (parts_in self.old other) path.now) }
     {
         let mut hash = RowHash::new();
         let mut above = None;

@@ -28,7 +28,7 @@ impl<'a> Spot<'a> {
         }
     }
 
-    /// Goes to a logical node, whose reference is joined in a room where it is another one.
+    /// Goes to a logical node, whose reference is joined in a buffer where it is another one.
     pub fn turn_to(
         &mut self,
         room: &mut Vec<u8>,

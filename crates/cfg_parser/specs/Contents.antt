@@ -1,4 +1,4 @@
--- What a line tells, word by word, with the first word that is refused.
+-- What a line says, word by word, with the first word that is refused.
 use Rattle.std.specs.Prelude.{ℕ, Bool, List, [], codes, Option, Some, None, Result, Ok, Err, if◌then◌else◌, unwrap_or}
 use Rattle.std.specs.List.{list_any}
 use Rattle.std.specs.Str.{bytes_eq}
@@ -96,7 +96,7 @@ block_triggers_at trg_ops intg_pd capacity = do
   c ← given kinds.Number (number_within 1 1048576 capacity)
   Ok (t, p, c)
 
--- the numbers and values of a report control block, behind its name
+-- the numbers and values of a report control block, after its name
 unfoldable pub block_fields_at : List Line → (name rpt_id dat_set conf_rev opt_flds buf_tm trg_ops intg_pd capacity : List ℕ) → Result Line Kind
 block_fields_at before name rpt_id dat_set conf_rev opt_flds buf_tm trg_ops intg_pd capacity = do
   ids ← block_texts_at rpt_id dat_set

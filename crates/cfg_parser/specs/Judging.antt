@@ -17,7 +17,7 @@ use Rattle.cfg_lines.specs.Before.{place_of, node_of, groups_of, has_settings, d
 use Rattle.cfg_parser.specs.Contents.{config_at, domain_at, node_at, set_at, member_at, attribute_at, block_at, control_at, groups_at}
 use Rattle.text_words.specs.Octets.{is_printable, is_skipped}
 
--- an item name of the logical node is above 64 octets: the node's name, `$`, and so many octets
+-- an item name of the logical node is above 64 octets: the node's name, `$`, and n octets
 abbrev pub is_long_item : List Line → ℕ → Bool
 is_long_item before behind = nat_lt 0 (length (node_of before)) && nat_lt 63 (length (node_of before) + behind)
 
@@ -102,7 +102,7 @@ abbrev pub is_configured : Place → Bool
 is_configured places.Configured = true
 is_configured _ = false
 
--- under SG only behind the domain's `sgcb`
+-- under SG only after the domain's `sgcb`
 abbrev pub has_groups : ℕ → List (List ℕ) → Bool
 has_groups groups [] = false
 has_groups groups (fc ∷ words) = if bytes_eq fc (codes "SG") then nat_lt 0 groups else true
@@ -147,7 +147,7 @@ has_many before keywords.Brcb words = nat_le 32 (blocks before)
 has_many before keywords.Ctl words = nat_le 64 (controls before) || is_deep 7 words
 has_many before _ words = false
 
--- what the words behind the first tell
+-- what the words after the first say
 unfoldable pub content_at : List Line → Keyword → List (List ℕ) → Result Line Kind
 content_at before keywords.Config (version ∷ []) = config_at version
 content_at before keywords.Server (vendor ∷ model ∷ revision ∷ []) = Ok (lines.Server vendor model revision)
@@ -174,7 +174,7 @@ abbrev pub known_at : List Line → Option Keyword → List (List ℕ) → Resul
 known_at before None words = Err kinds.Word
 known_at before (Some keyword) words = keyed_at before keyword words
 
--- a line of words: its first word, and those behind it
+-- a line of words: its first word, and those after it
 unfoldable pub tell_at : List Line → List ℕ → List (List ℕ) → Result Line Kind
 tell_at before text [] = Err kinds.Word
 tell_at before text (word ∷ words) =
@@ -185,7 +185,7 @@ tell_at before text (word ∷ words) =
 unfoldable pub skip_at : List Line → List ℕ → Result Line Kind
 skip_at before text = if list_all is_printable text then (if is_full before then Err kinds.Many else Ok lines.Skip) else Err kinds.Word
 
--- what the line behind these tells
+-- what the line after these says
 unfoldable pub line_at : List Line → List ℕ → Result Line Kind
 line_at before text =
     if nat_lt 1000 (length text) then Err kinds.Long

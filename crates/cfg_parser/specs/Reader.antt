@@ -6,7 +6,7 @@ use Rattle.cfg_parser.specs.declared.fault.CfgFault.{CfgFault}
 use Rattle.cfg_parser.specs.declared.fault.CfgFault.TheVariants as faults
 use Rattle.cfg_parser.specs.declared.fault.LineFault.TheVariants.{Refused, Memory}
 
--- what a function returned is what is read; of want of memory nothing is said
+-- what a function returned is what is read; of out of memory nothing is said
 abbrev pub Gives : {A : Type 0} → Result A LineFault → Result A Kind → Type 0
 Gives (Ok x) read = read ≡ Ok x
 Gives (Err (Refused kind)) read = read ≡ Err kind

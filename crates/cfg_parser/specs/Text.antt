@@ -13,7 +13,7 @@ use Rattle.cfg_lines.specs.declared.line.Place.TheVariants as places
 use Rattle.cfg_lines.specs.Before.{number_of, place_of}
 use Rattle.cfg_parser.specs.Judging.{line_at}
 
--- what ends with a newline, and what is left behind the last one
+-- what ends with a newline, and what is left after the last one
 abbrev pub pieces : List ℕ → List (List ℕ)
 pieces text = slice_split (λ b. b == 10) text
 
@@ -26,7 +26,7 @@ abbrev pub is_ended : Place → Bool
 is_ended places.Ended = true
 is_ended _ = false
 
--- Behind the last newline nothing may be left, and `end` must have been there: else the line that isn't there is refused.
+-- After the last newline nothing may be left, and `end` must have been there: else the line that isn't there is refused.
 abbrev pub ended_at : List Line → List ℕ → Result (List Line) CfgFault
 ended_at before rest = if is_ended (place_of before) && (length rest == 0) then Ok before else Err (faults.Refused (number_of before) kinds.Order)
 

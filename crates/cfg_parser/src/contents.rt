@@ -1,12 +1,15 @@
-//! What a line tells, word by word.
+//! What a line says, word by word.
 
 ghost use Rattle.std.specs.Prelude.{◌≡◌, ◌<◌, length, map, IfOk, option_copied};
 ghost use Rattle.text_words.specs.Words.{texts};
 ghost use Rattle.cfg_lines.specs.Before.{domain_of, node_of};
 ghost use Rattle.cfg_parser.specs.Reader.{Gives};
-ghost use Rattle.cfg_parser.specs.Contents.{config_at, domain_at, node_at, set_at, member_at, typed_at, attribute_at, block_texts_at};
-ghost use Rattle.cfg_parser.specs.Contents.{block_options_at, block_triggers_at, block_fields_at, block_at, control_type_at};
-ghost use Rattle.cfg_parser.specs.Contents.{model_of as model_number, control_fields_at, control_at, group_fields_at, groups_at};
+ghost use Rattle.cfg_parser.specs.Contents.{config_at, domain_at, node_at, set_at, member_at};
+ghost use Rattle.cfg_parser.specs.Contents.{typed_at, attribute_at, block_texts_at};
+ghost use Rattle.cfg_parser.specs.Contents.{block_options_at, block_triggers_at, block_fields_at};
+ghost use Rattle.cfg_parser.specs.Contents.{block_at, control_type_at};
+ghost use Rattle.cfg_parser.specs.Contents.{model_of as model_number, control_fields_at};
+ghost use Rattle.cfg_parser.specs.Contents.{control_at, group_fields_at, groups_at};
 
 use crate::fault::{Kind, LineFault};
 use cfg_lines::{Line, control_keys, group_key, item_key, node_item, node_key, put_item_key};
@@ -104,7 +107,8 @@ fn attribute_names(
     fc: &[u8],
     path: &[u8],
 ) -> Result<(SharedOcts, SharedOcts, ShortOcts, ShortOcts), AllocError>
-    ensures { IfOk result (λ names. names ≡ (domain_of before.now, node_of before.now, fc.now, path.now)) }
+    ensures { IfOk result (λ names. names
+        ≡ (domain_of before.now, node_of before.now, fc.now, path.now)) }
 {
     Ok((
         before.share_domain()?,
@@ -125,7 +129,8 @@ fn typed_line(
     flags: &[u8],
     words: &[&[u8]],
 ) -> Result<Line, LineFault>
-    ensures { Gives result (typed_at before.now fc.now path.now kind.now flags.now (texts words.now)) }
+    ensures { Gives result (typed_at before.now fc.now path.now kind.now flags.now
+        (texts words.now)) }
 {
     let Some(kind) = type_of(kind) else {
         return Err(LineFault::Refused(Kind::TypeName));
@@ -155,7 +160,7 @@ fn typed_line(
     }))
 }
 
-/// `attr` and what describes an attribute, whose reference is joined in a room.
+/// `attr` and what describes an attribute, whose reference is joined in a buffer.
 #[tactic(auto, unfolding(crate::specs::Contents::attribute_at))]
 pub fn attribute_line(
     alloc: Global,
@@ -167,7 +172,8 @@ pub fn attribute_line(
     flags: &[u8],
     words: &[&[u8]],
 ) -> Result<Line, LineFault>
-    ensures { Gives result (attribute_at before.now fc.now path.now kind.now flags.now (texts words.now)) }
+    ensures { Gives result (attribute_at before.now fc.now path.now kind.now flags.now
+        (texts words.now)) }
 {
     if !is_fc(fc) || !is_path(path) {
         return Err(LineFault::Refused(Kind::Name));
@@ -251,8 +257,10 @@ pub struct BlockWords<'a> {
 /// The numbers and values of a report control block.
 #[tactic(auto, unfolding(crate::specs::Contents::block_fields_at))]
 fn block_fields(alloc: Global, before: &Reading, words: BlockWords<'_>) -> Result<Line, LineFault>
-    ensures { Gives result (block_fields_at before.now words.entry.name.now words.entry.rpt_id.now words.entry.dat_set.now
-        words.entry.conf_rev.now words.entry.opt_flds.now words.entry.buf_tm.now words.entry.trg_ops.now words.entry.intg_pd.now words.entry.capacity.now) }
+    ensures { Gives result (block_fields_at before.now words.entry.name.now words.entry.rpt_id.now
+        words.entry.dat_set.now
+        words.entry.conf_rev.now words.entry.opt_flds.now words.entry.buf_tm.now
+        words.entry.trg_ops.now words.entry.intg_pd.now words.entry.capacity.now) }
 {
     let (rpt_id, dat_set) = block_texts(alloc, words.rpt_id, words.dat_set)?;
     let (conf_rev, opt_flds, buf_tm) = block_options(
@@ -286,8 +294,10 @@ fn block_fields(alloc: Global, before: &Reading, words: BlockWords<'_>) -> Resul
 /// `brcb` and what describes a report control block.
 #[tactic(auto, unfolding(crate::specs::Contents::block_at))]
 pub fn block_line(alloc: Global, before: &Reading, words: BlockWords<'_>) -> Result<Line, LineFault>
-    ensures { Gives result (block_at before.now words.entry.name.now words.entry.rpt_id.now words.entry.dat_set.now
-        words.entry.conf_rev.now words.entry.opt_flds.now words.entry.buf_tm.now words.entry.trg_ops.now words.entry.intg_pd.now words.entry.capacity.now) }
+    ensures { Gives result (block_at before.now words.entry.name.now words.entry.rpt_id.now
+        words.entry.dat_set.now
+        words.entry.conf_rev.now words.entry.opt_flds.now words.entry.buf_tm.now
+        words.entry.trg_ops.now words.entry.intg_pd.now words.entry.capacity.now) }
 {
     if !is_name(words.name) {
         return Err(LineFault::Refused(Kind::Name));
@@ -330,7 +340,8 @@ fn control_fields(
     class: &[u8],
     kind: &[u8],
 ) -> Result<Line, LineFault>
-    ensures { Gives result (control_fields_at before.now path.now model.now timeout.now class.now kind.now) }
+    ensures { Gives result (control_fields_at before.now path.now model.now timeout.now
+        class.now kind.now) }
 {
     let Some(model) = number_between(model, 0, 4) else {
         return Err(LineFault::Refused(Kind::Number));
@@ -367,7 +378,8 @@ pub fn control_line(
     class: &[u8],
     kind: &[u8],
 ) -> Result<Line, LineFault>
-    ensures { Gives result (control_at before.now path.now model.now timeout.now class.now kind.now) }
+    ensures { Gives result (control_at before.now path.now model.now timeout.now
+        class.now kind.now) }
 {
     if !is_path(path) {
         return Err(LineFault::Refused(Kind::Name));

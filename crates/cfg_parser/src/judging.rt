@@ -6,13 +6,22 @@ ghost use Rattle.std.specs.Str.{bytes_eq};
 ghost use Rattle.text_words.specs.Names.{is_dollar};
 ghost use Rattle.cfg_lines.specs.Before.{place_of, node_of, has_settings};
 ghost use Rattle.text_words.specs.Words.{texts};
-ghost use Rattle.cfg_parser.specs.Judging.{is_long_item as long_item, is_long_control as long_control, is_long_attribute as long_attribute};
-ghost use Rattle.cfg_parser.specs.Judging.{is_long_set as long_set, is_long_block as long_block, is_long_member as long_member};
-ghost use Rattle.cfg_parser.specs.Judging.{has_long as has_long_word, control_octets as octets_of_control, counts as count_fits};
-ghost use Rattle.cfg_parser.specs.Judging.{attribute_counts as attribute_count_fits, may_stand as stands, has_groups as has_groups_for};
-ghost use Rattle.cfg_parser.specs.Judging.{is_in_node as in_node, is_in_domain as in_domain, is_in_set as in_set, is_open as open_at};
-ghost use Rattle.cfg_parser.specs.Judging.{is_start as start_at, is_configured as configured_at, is_deep as deep};
-ghost use Rattle.cfg_parser.specs.Judging.{is_deep_attribute as deep_attribute, is_deep_member as deep_member, has_many as has_as_many};
+ghost use Rattle.cfg_parser.specs.Judging.{is_long_item as long_item};
+ghost use Rattle.cfg_parser.specs.Judging.{is_long_control as long_control};
+ghost use Rattle.cfg_parser.specs.Judging.{is_long_attribute as long_attribute};
+ghost use Rattle.cfg_parser.specs.Judging.{is_long_set as long_set, is_long_block as long_block};
+ghost use Rattle.cfg_parser.specs.Judging.{is_long_member as long_member};
+ghost use Rattle.cfg_parser.specs.Judging.{has_long as has_long_word};
+ghost use Rattle.cfg_parser.specs.Judging.{control_octets as octets_of_control};
+ghost use Rattle.cfg_parser.specs.Judging.{counts as count_fits};
+ghost use Rattle.cfg_parser.specs.Judging.{attribute_counts as attribute_count_fits};
+ghost use Rattle.cfg_parser.specs.Judging.{may_stand as stands, has_groups as has_groups_for};
+ghost use Rattle.cfg_parser.specs.Judging.{is_in_node as in_node, is_in_domain as in_domain};
+ghost use Rattle.cfg_parser.specs.Judging.{is_in_set as in_set, is_open as open_at};
+ghost use Rattle.cfg_parser.specs.Judging.{is_start as start_at, is_configured as configured_at};
+ghost use Rattle.cfg_parser.specs.Judging.{is_deep as deep};
+ghost use Rattle.cfg_parser.specs.Judging.{is_deep_attribute as deep_attribute};
+ghost use Rattle.cfg_parser.specs.Judging.{is_deep_member as deep_member, has_many as has_as_many};
 ghost use Rattle.cfg_parser.specs.Judging.{is_full as full};
 
 use crate::keyword::Keyword;
@@ -43,7 +52,7 @@ fn has_long_of_server(words: &[&[u8]]) -> bool
     words.iter().any(|word| word.len() > 64)
 }
 
-/// An item name of the logical node, with so many octets behind the node's name and `$`, is above 64 octets.
+/// An item name of the logical node, with n octets after the node's name and `$`, is above 64 octets.
 fn is_long_item(before: &Reading, behind: usize) -> bool
     ensures { result ≡ long_item before.now behind }
 {
@@ -199,7 +208,7 @@ fn is_in_set(place: Place) -> bool
     matches!(place, Place::InSet | Place::InMembers)
 }
 
-/// Under SG an attribute stands only behind the domain's `sgcb`.
+/// Under SG an attribute stands only after the domain's `sgcb`.
 fn has_groups(groups: u8, words: &[&[u8]]) -> bool
     ensures { result ≡ has_groups_for groups (texts words.now) }
 {
@@ -217,7 +226,8 @@ fn has_groups(groups: u8, words: &[&[u8]]) -> bool
 
 /// The line of a setting group control block may stand in the domain's LLN0 before its attributes under SG.
 fn may_have_groups(before: &Reading) -> bool
-    ensures { result ≡ ((in_node (place_of before.now) && bytes_eq (node_of before.now) (codes "LLN0")) && not (has_settings before.now)) }
+    ensures { result ≡ ((in_node (place_of before.now) && bytes_eq (node_of before.now)
+        (codes "LLN0")) && not (has_settings before.now)) }
 {
     is_in_node(before.place()) && before.node() == b"LLN0".as_slice() && !before.has_settings()
 }
@@ -239,7 +249,7 @@ pub fn may_stand(before: &Reading, keyword: Keyword, words: &[&[u8]]) -> bool
     }
 }
 
-/// The path has more than so many `$`.
+/// The path has more than n `$`.
 fn is_deep(path: &[u8], most: usize) -> bool
     ensures { result ≡ nat_lt most (count_by is_dollar path.now) }
 {

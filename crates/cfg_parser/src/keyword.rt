@@ -3,7 +3,7 @@
 ghost use Rattle.std.specs.Prelude.{◌≡◌};
 ghost use Rattle.cfg_parser.specs.Keywords.{keyword_at};
 
-/// The first word of a line, which says what the line tells.
+/// The first word of a line, which says what the line says.
 #[derive(Clone, Copy, Debug, PartialEq, Eq)]
 pub enum Keyword {
     Config,

@@ -12,10 +12,10 @@ use smallvec::SmallVec;
 use std::alloc::{AllocError, Global};
 use text_words::split_line;
 
-/// The most octets of a text for whose lines room is made beforehand.
+/// The most octets of a text for whose lines memory is made beforehand.
 const MOST_ROOM: usize = 1 << 20;
 
-/// What is behind the last newline is nothing, and `end` was there.
+/// What is after the last newline is nothing, and `end` was there.
 fn finish(reading: Reading, rest: &[u8]) -> Result<Reading, CfgFault>
     ensures { GivesText result (ended_at reading rest.now) }
 {
@@ -38,7 +38,7 @@ fn at_line(number: u32, fault: LineFault) -> CfgFault
     }
 }
 
-/// Adds what the next line tells.
+/// Adds what the next line says.
 fn read_line<'a>(
     alloc: Global,
     reading: &mut Reading,
@@ -60,8 +60,8 @@ fn read_line<'a>(
 /// The lines of a configuration's text, each told by the lines before it, up to the line `end`.
 ///
 /// Fails with the first line that is refused, counted from 1, and its kind: on one line Long, Word, Order and Many in this
-/// order, then word by word. An input that ends before `end` is refused as Order at the line behind the last. Nothing that a
-/// line names is looked up. `Memory` is want of memory.
+/// order, then word by word. An input that ends before `end` is refused as Order at the line after the last. Nothing that a
+/// line names is looked up. `Memory` is out of memory.
 pub fn read_lines(alloc: Global, text: &[u8]) -> Result<Reading, CfgFault>
     ensures { GivesText result (lines_at text.now) }
 {

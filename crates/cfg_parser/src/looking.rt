@@ -20,8 +20,10 @@ use sv_base::Config;
 #[tactic(auto, unfolding(crate::specs::Looking::look_at))]
 fn look(reading: &Reading, nodes: &Nodes<'_>, number: u32, line: &Line) -> Result<(), CfgFault>
     requires asked { is_asked (asked reading.now) line.now ≡ true }
-    requires nodes { (node : List ℕ) → is_among (asked reading.now) node ≡ true → is_node_in nodes.now node ≡ is_node reading.now node }
-    requires members { (node : List ℕ) → is_among (asked reading.now) node ≡ true → is_member_in nodes.now node ≡ is_member_node reading.now node }
+    requires nodes { (node : List ℕ) → is_among (asked reading.now) node ≡ true
+        → is_node_in nodes.now node ≡ is_node reading.now node }
+    requires members { (node : List ℕ) → is_among (asked reading.now) node ≡ true
+        → is_member_in nodes.now node ≡ is_member_node reading.now node }
     ensures { GivesText result (look_at reading.now number line.now) }
 {
     let kind = match line {
@@ -49,8 +51,10 @@ fn look(reading: &Reading, nodes: &Nodes<'_>, number: u32, line: &Line) -> Resul
 
 /// Looks up what the lines name among these nodes, in their order.
 fn look_among(reading: &Reading, nodes: &Nodes<'_>) -> Result<(), CfgFault>
-    requires nodes { (node : List ℕ) → is_among (asked reading.now) node ≡ true → is_node_in nodes.now node ≡ is_node reading.now node }
-    requires members { (node : List ℕ) → is_among (asked reading.now) node ≡ true → is_member_in nodes.now node ≡ is_member_node reading.now node }
+    requires nodes { (node : List ℕ) → is_among (asked reading.now) node ≡ true
+        → is_node_in nodes.now node ≡ is_node reading.now node }
+    requires members { (node : List ℕ) → is_among (asked reading.now) node ≡ true
+        → is_member_in nodes.now node ≡ is_member_node reading.now node }
     ensures { GivesText result (looked_at reading.now reading.now) }
 {
     let lines = reading.lines();
@@ -77,9 +81,9 @@ fn look_up(alloc: Global, reading: &Reading) -> Result<(), CfgFault>
 /// The configuration of a text.
 ///
 /// Fails with the first line that is refused, counted from 1, and its kind: on one line Long, Word, Order and Many in this
-/// order, then word by word. An input that ends before `end` is refused as Order at the line behind the last. What lines name
+/// order, then word by word. An input that ends before `end` is refused as Order at the line after the last. What lines name
 /// is looked up when all lines are there, in their order: a data set or a node that isn't there is Unknown, a node that no data
-/// set may have, or whose Data may be above 500 octets, is Member. `Memory` is want of memory.
+/// set may have, or whose Data may be above 500 octets, is Member. `Memory` is out of memory.
 pub fn read_config(alloc: Global, text: &[u8]) -> Result<Config, CfgFault>
     ensures { GivesText result (config_at text.now) }
 {

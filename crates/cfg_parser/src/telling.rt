@@ -1,10 +1,11 @@
-//! What the next line tells.
+//! What the next line says.
 
 ghost use Rattle.std.specs.Prelude.{◌≡◌, ◌<◌, Ok, length, IfOk};
 ghost use Rattle.text_words.specs.Words.{texts};
 ghost use Rattle.cfg_parser.specs.Reader.{Gives};
 ghost use Rattle.cfg_lines.specs.declared.line.Line.TheVariants.{Server};
-ghost use Rattle.cfg_parser.specs.Judging.{content_at, keyed_at, known_at, tell_at, skip_at, line_at};
+ghost use Rattle.cfg_parser.specs.Judging.{content_at, keyed_at, known_at, tell_at, skip_at};
+ghost use Rattle.cfg_parser.specs.Judging.{line_at};
 
 use crate::contents::{
     BlockWords, MOST_OCTETS, attribute_line, block_line, config_line, control_line, domain_line,
@@ -36,7 +37,7 @@ fn server_line(
     })
 }
 
-/// What the words behind the first tell.
+/// What the words after the first say.
 #[tactic(auto, unfolding(crate::specs::Judging::content_at))]
 fn content(
     alloc: Global,
@@ -148,7 +149,7 @@ fn tell(
     }
 }
 
-/// A line that tells nothing.
+/// A line that says nothing.
 #[tactic(auto, unfolding(crate::specs::Judging::skip_at))]
 fn skip(before: &Reading, text: &[u8]) -> Result<Line, LineFault>
     ensures told { Gives result (skip_at before.now text.now) }
@@ -163,7 +164,7 @@ fn skip(before: &Reading, text: &[u8]) -> Result<Line, LineFault>
     Ok(Line::Skip)
 }
 
-/// What the next line tells, whose words are put in a room.
+/// What the next line says, whose words are put in a buffer.
 #[tactic(auto, unfolding(crate::specs::Judging::line_at))]
 pub fn line<'a>(
     alloc: Global,

@@ -3,8 +3,10 @@
 ghost use Rattle.std.specs.Prelude.{◌≡◌, ◌||◌, List, ℕ, codes, OnOk};
 ghost use Rattle.std.specs.Str.{bytes_eq};
 ghost use Rattle.cfg_lines.specs.Keys.{is_among};
-ghost use Rattle.cfg_lines.specs.Paths.{below, node_key as node_key_of, item_key as item_key_of, clashes, is_taken};
-ghost use Rattle.cfg_lines.specs.Claims.{control_keys as control_keys_of, group_key as group_key_of};
+ghost use Rattle.cfg_lines.specs.Paths.{below, node_key as node_key_of, item_key as item_key_of};
+ghost use Rattle.cfg_lines.specs.Paths.{clashes, is_taken};
+ghost use Rattle.cfg_lines.specs.Claims.{control_keys as control_keys_of};
+ghost use Rattle.cfg_lines.specs.Claims.{group_key as group_key_of};
 
 use cfg_lines::{
     Keys, Names, control_keys, group_key, item_key, node_item, node_key, put_item_key,
@@ -14,7 +16,9 @@ use sv_base::{AttrDef, BlockDef, CtlDef, LnDef, SetDef, SgDef};
 
 /// Adds the reference of a logical node.
 pub fn add_node(alloc: Global, heads: &mut Keys, node: &LnDef) -> Result<(), AllocError>
-    ensures { OnOk result ((key : List ℕ) → is_among heads.new key ≡ (bytes_eq key (node_key_of node.now.domain node.now.ln) || is_among heads.old key)) }
+    ensures { OnOk result ((key : List ℕ)
+        → is_among heads.new key ≡ (bytes_eq key (node_key_of node.now.domain node.now.ln)
+        || is_among heads.old key)) }
 {
     let key = node_key(alloc, node.domain.as_slice(), node.ln.as_slice())?;
     heads.add(&key)
@@ -23,7 +27,8 @@ pub fn add_node(alloc: Global, heads: &mut Keys, node: &LnDef) -> Result<(), All
 /// Adds the reference of a data set.
 pub fn add_set(alloc: Global, sets: &mut Keys, set: &SetDef) -> Result<(), AllocError>
     ensures { OnOk result ((key : List ℕ) → is_among sets.new key ≡
-        (bytes_eq key (below (node_key_of set.now.domain set.now.ln) set.now.name) || is_among sets.old key)) }
+        (bytes_eq key (below (node_key_of set.now.domain set.now.ln) set.now.name)
+        || is_among sets.old key)) }
 {
     let key = node_item(
         alloc,
@@ -34,7 +39,7 @@ pub fn add_set(alloc: Global, sets: &mut Keys, set: &SetDef) -> Result<(), Alloc
     sets.add(&key)
 }
 
-/// Adds the path of an attribute, which is joined in a room.
+/// Adds the path of an attribute, which is joined in a buffer.
 pub fn add_attribute(
     alloc: Global,
     room: &mut Vec<u8>,
@@ -42,7 +47,8 @@ pub fn add_attribute(
     attr: &AttrDef,
 ) -> Result<(), AllocError>
     ensures { OnOk result ((q : List ℕ) → is_taken names.new q ≡
-        (clashes q (item_key_of attr.now.domain attr.now.ln attr.now.fc attr.now.path) || is_taken names.old q)) }
+        (clashes q (item_key_of attr.now.domain attr.now.ln attr.now.fc attr.now.path)
+        || is_taken names.old q)) }
 {
     put_item_key(
         room,
@@ -57,7 +63,8 @@ pub fn add_attribute(
 /// Adds the path of a report control block.
 pub fn add_block(alloc: Global, names: &mut Names, block: &BlockDef) -> Result<(), AllocError>
     ensures { OnOk result ((q : List ℕ) → is_taken names.new q ≡
-        (clashes q (item_key_of block.now.domain block.now.ln (codes "BR") block.now.name) || is_taken names.old q)) }
+        (clashes q (item_key_of block.now.domain block.now.ln (codes "BR") block.now.name)
+        || is_taken names.old q)) }
 {
     let key = item_key(
         alloc,
@@ -72,7 +79,8 @@ pub fn add_block(alloc: Global, names: &mut Names, block: &BlockDef) -> Result<(
 /// Adds the paths of a control.
 pub fn add_control(alloc: Global, names: &mut Names, control: &CtlDef) -> Result<(), AllocError>
     ensures { OnOk result ((q : List ℕ) → is_taken names.new q ≡
-        (is_taken (control_keys_of control.now.domain control.now.ln control.now.path control.now.model) q || is_taken names.old q)) }
+        (is_taken (control_keys_of control.now.domain control.now.ln control.now.path
+        control.now.model) q || is_taken names.old q)) }
 {
     let keys = control_keys(
         alloc,
@@ -86,7 +94,9 @@ pub fn add_control(alloc: Global, names: &mut Names, control: &CtlDef) -> Result
 
 /// Adds the path of a setting group control block.
 pub fn add_groups(alloc: Global, names: &mut Names, groups: &SgDef) -> Result<(), AllocError>
-    ensures { OnOk result ((q : List ℕ) → is_taken names.new q ≡ (clashes q (group_key_of groups.now.domain (codes "LLN0")) || is_taken names.old q)) }
+    ensures { OnOk result ((q : List ℕ)
+        → is_taken names.new q ≡ (clashes q (group_key_of groups.now.domain (codes "LLN0"))
+        || is_taken names.old q)) }
 {
     let key = group_key(alloc, groups.domain.as_slice())?;
     names.add(alloc, &key)

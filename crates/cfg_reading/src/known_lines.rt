@@ -27,7 +27,7 @@ pub struct Counts {
     pub controls: u32,
 }
 
-/// The lines that were read, and what they tell of the next.
+/// The lines that were read, and what they say of the next.
 #[derive(Drop)]
 pub struct KnownLines {
     pub lines: Vec<Line>,
@@ -47,7 +47,8 @@ pub struct KnownLines {
 impl KnownLines {
     ghost use Rattle.std.specs.Prelude.{◌≡◌, ◌++◌, ◌∷◌, [], IfOk, OnOk};
     ghost use Rattle.cfg_lines.specs.Facts.{facts_of};
-    ghost use Rattle.cfg_lines.specs.declared.line.Line.TheVariants.{Ld, Ln, Attr, Set, Brcb, Ctl, Sgcb};
+    ghost use Rattle.cfg_lines.specs.declared.line.Line.TheVariants.{Ld, Ln, Attr, Set, Brcb, Ctl};
+    ghost use Rattle.cfg_lines.specs.declared.line.Line.TheVariants.{Sgcb};
     ghost use Rattle.cfg_reading.specs.Known.{AreFew, IsShort, Noted, Tells, facts_kept};
 
     /// What is kept of no line.
@@ -61,7 +62,7 @@ impl KnownLines {
         Self::of(alloc, Vec::new(alloc), Names::new(alloc))
     }
 
-    /// What is kept of no line, and room for the lines of so many octets, at 24 a line.
+    /// What is kept of no line, and memory for the lines of n octets, at 24 a line.
     pub fn with_capacity(alloc: Global, octets: usize) -> Result<KnownLines, AllocError>
         ensures lines { IfOk result (λ k. k.lines.items ≡ []) }
         ensures facts { IfOk result (λ k. facts_kept k ≡ facts_of []) }
@@ -75,7 +76,7 @@ impl KnownLines {
         Ok(Self::of(alloc, lines, names))
     }
 
-    /// What is kept of no line, where lines and names have some room.
+    /// What is kept of no line, where lines and names have some capacity.
     fn of(alloc: Global, lines: Vec<Line>, names: Names) -> KnownLines
         ensures lines { result.lines.items ≡ lines.items }
         ensures facts { facts_kept result ≡ facts_of [] }
@@ -193,7 +194,7 @@ impl KnownLines {
         }
     }
 
-    /// Notes what a line tells of the next.
+    /// Notes what a line says of the next.
     fn note(&mut self, alloc: Global, line: &Line) -> Result<(), AllocError>
         requires few { AreFew self.old.counts }
         ensures noted { OnOk result (Noted line.now self.old self.new) }

@@ -7,7 +7,7 @@ use std::alloc::{AllocError, Global};
 use std::marker::Model;
 use sv_base::{Config, SharedOcts};
 
-/// The lines that were read, and what they tell of the next. Contracts see it as the list of the lines, the last first.
+/// The lines that were read, and what they say of the next. Contracts see it as the list of the lines, the last first.
 #[derive(Drop)]
 pub struct Reading {
     kept: KnownLines,
@@ -27,22 +27,27 @@ impl Model for Reading {
 
     ghost view = { λ r. reverse r.kept.lines.items };
 
-    ghost invariant = { λ r. Known (reverse r.kept.lines.items) (facts_kept r.kept) r.kept.heads r.kept.sets r.kept.names };
+    ghost invariant = { λ r. Known (reverse r.kept.lines.items)
+        (facts_kept r.kept) r.kept.heads r.kept.sets r.kept.names };
 }
 
 impl Reading {
     ghost use Rattle.std.specs.Prelude.{◌≡◌, ◌≤◌, ◌<◌, ◌∷◌, [], length, IfOk, OnOk};
-    ghost use Rattle.cfg_lines.specs.Before.{number_of, place_of, domain_of, node_of, groups_of, has_settings as has_settings_before};
-    ghost use Rattle.cfg_lines.specs.Before.{domains as domains_before, nodes as nodes_before, attributes as attributes_before, sets as sets_before};
-    ghost use Rattle.cfg_lines.specs.Before.{members as members_before, blocks as blocks_before, controls as controls_before};
+    ghost use Rattle.cfg_lines.specs.Before.{number_of, place_of, domain_of, node_of, groups_of};
+    ghost use Rattle.cfg_lines.specs.Before.{has_settings as has_settings_before};
+    ghost use Rattle.cfg_lines.specs.Before.{domains as domains_before, nodes as nodes_before};
+    ghost use Rattle.cfg_lines.specs.Before.{attributes as attributes_before, sets as sets_before};
+    ghost use Rattle.cfg_lines.specs.Before.{members as members_before, blocks as blocks_before};
+    ghost use Rattle.cfg_lines.specs.Before.{controls as controls_before};
     ghost use Rattle.std.specs.Prelude.{map, reverse};
     ghost use Rattle.std.specs.List.{list_any};
     ghost use Rattle.cfg_lines.specs.Keys.{is_among, octets_of};
     ghost use Rattle.cfg_lines.specs.Paths.{is_taken as is_taken_by};
     ghost use Rattle.cfg_lines.specs.Configs.{config_of as config_of_lines};
-    ghost use Rattle.cfg_lines.specs.Claims.{heads as heads_before, sets as set_keys_before, claims};
+    ghost use Rattle.cfg_lines.specs.Claims.{heads as heads_before, sets as set_keys_before};
+    ghost use Rattle.cfg_lines.specs.Claims.{claims};
 
-    /// No line was read, and there is room for the lines of so many octets, at 24 a line.
+    /// No line was read, and there is capacity for the lines of n octets, at 24 a line.
     pub fn with_capacity(alloc: Global, octets: usize) -> Result<Reading, AllocError>
         ensures { IfOk result (λ r. r ≡ []) }
     {
@@ -159,7 +164,8 @@ impl Reading {
 
     /// One of the paths can't stand beside those that are taken.
     pub fn is_one_taken(&self, paths: &[Vec<u8>]) -> bool
-        ensures { result ≡ list_any (λ path. is_taken_by (claims self.now) path) (map octets_of paths.now) }
+        ensures { result ≡ list_any (λ path. is_taken_by (claims self.now) path)
+            (map octets_of paths.now) }
     {
         self.kept.names.is_one_taken(paths)
     }

@@ -40,7 +40,7 @@ abbrev pub in_order : List Line → List Line
 in_order [] = []
 in_order (line ∷ more) = put_in line (in_order more)
 
--- a data set's members stand behind it
+-- a data set's members stand after it
 abbrev pub with_members : Line → List Line
 with_members (lines.Set set) = lines.Set (record set { members = [] }) ∷ map lines.Member set.members
 with_members line = line ∷ []

@@ -4,8 +4,10 @@ ghost use Rattle.std.specs.Prelude.{◌≡◌, ◌++◌, ◌∷◌, [], map, OnO
 ghost use Rattle.std.specs.Fmt.{decimal};
 ghost use Rattle.std.specs.List.{flat_map, join_with_byte};
 ghost use Rattle.sv_base.specs.Same.{values_of};
-ghost use Rattle.cfg_lines.specs.declared.line.Line.TheVariants.{Config, Server, Ld, Ln, Attr, Set, Member, Brcb, Ctl, Sgcb, End};
-ghost use Rattle.text_words.specs.Spelled.{bits_word as word_of_bits, value_word as word_of_value, type_word as word_of_type};
+ghost use Rattle.cfg_lines.specs.declared.line.Line.TheVariants.{Config, Server, Ld, Ln, Attr, Set};
+ghost use Rattle.cfg_lines.specs.declared.line.Line.TheVariants.{Member, Brcb, Ctl, Sgcb, End};
+ghost use Rattle.text_words.specs.Spelled.{bits_word as word_of_bits, value_word as word_of_value};
+ghost use Rattle.text_words.specs.Spelled.{type_word as word_of_type};
 ghost use Rattle.text_words.specs.Spelled.{flags_word as word_of_flags, spaced};
 ghost use Rattle.cfg_writing.specs.Written.{line_text, text_of, with_members};
 
@@ -23,7 +25,8 @@ pub fn push_heading(
     model: &[u8],
     revision: &[u8],
 ) -> Result<(), AllocError>
-    ensures { OnOk result (out.new.items ≡ out.old.items ++ line_text Config ++ line_text (Server vendor.now model.now revision.now)) }
+    ensures { OnOk result (out.new.items ≡ out.old.items ++ line_text Config ++ line_text
+        (Server vendor.now model.now revision.now)) }
 {
     out.extend_from_slice(b"config 1\nserver")?;
     push_word(out, vendor)?;
@@ -55,7 +58,8 @@ pub fn push_node(out: &mut Vec<u8>, node: &LnDef) -> Result<(), AllocError>
 /// Adds the type, the trigger options and the values of an attribute.
 fn push_contents(alloc: Global, out: &mut Vec<u8>, attr: &AttrDef) -> Result<(), AllocError>
     ensures { OnOk result (out.new.items ≡ out.old.items ++ spaced
-        (join_with_byte 32 (word_of_type attr.now.kind ∷ word_of_flags attr.now.dchg attr.now.qchg attr.now.dupd ∷ map word_of_value
+        (join_with_byte 32 (word_of_type attr.now.kind
+        ∷ word_of_flags attr.now.dchg attr.now.qchg attr.now.dupd ∷ map word_of_value
         (values_of attr.now.values)))) }
 {
     push_type(out, &attr.kind)?;
@@ -110,7 +114,8 @@ pub fn push_set(out: &mut Vec<u8>, set: &SetDef) -> Result<(), AllocError>
 fn push_options(out: &mut Vec<u8>, block: &BlockDef) -> Result<(), AllocError>
     ensures { OnOk result (out.new.items ≡ out.old.items ++ flat_map spaced
         (decimal block.now.conf_rev ∷ word_of_bits block.now.opt_flds ∷ decimal block.now.buf_tm
-        ∷ word_of_bits block.now.trg_ops ∷ decimal block.now.intg_pd ∷ decimal block.now.capacity ∷ [])) }
+        ∷ word_of_bits block.now.trg_ops ∷ decimal block.now.intg_pd
+        ∷ decimal block.now.capacity ∷ [])) }
 {
     push_number(out, u64::from(block.conf_rev))?;
     push_bits(out, block.opt_flds.as_slice())?;

@@ -2,7 +2,8 @@
 
 ghost use Rattle.std.specs.Prelude.{◌≡◌, ◌++◌, List, ℕ, [], map, IfOk, OnOk};
 ghost use Rattle.cfg_lines.specs.declared.line.Line.TheVariants.{Ln, Attr, Set, Brcb, Ctl, Sgcb};
-ghost use Rattle.cfg_writing.specs.Written.{number, domain as domain_of, objects as objects_of, in_order, with_members, heading, with_domains};
+ghost use Rattle.cfg_writing.specs.Written.{number, domain as domain_of, objects as objects_of};
+ghost use Rattle.cfg_writing.specs.Written.{in_order, with_members, heading, with_domains};
 ghost use Rattle.cfg_writing.specs.Written.{text_of, written};
 ghost use Rattle.cfg_writing.specs.Objects.{line_of};
 
@@ -54,7 +55,8 @@ fn domain<'a>(object: &Object<'a>) -> &'a [u8]
 
 /// Adds its line, and those of a data set's members.
 fn push_object(alloc: Global, out: &mut Vec<u8>, object: &Object<'_>) -> Result<(), AllocError>
-    ensures { OnOk result (out.new.items ≡ out.old.items ++ text_of (with_members (line_of object.now))) }
+    ensures { OnOk result (out.new.items ≡ out.old.items ++ text_of
+        (with_members (line_of object.now))) }
 {
     match object {
         Object::Node(node) => push_node(out, node),
@@ -78,7 +80,8 @@ fn push_heading_of(out: &mut Vec<u8>, before: &[u8], name: &[u8]) -> Result<(), 
 
 /// Adds the lines of objects in this order, each domain's before its first.
 fn push_all(alloc: Global, out: &mut Vec<u8>, objects: &[Object<'_>]) -> Result<(), AllocError>
-    ensures { OnOk result (out.new.items ≡ out.old.items ++ text_of (with_domains [] (map line_of objects.now))) }
+    ensures { OnOk result (out.new.items ≡ out.old.items ++ text_of
+        (with_domains [] (map line_of objects.now))) }
 {
     let mut before = b"".as_slice();
     for object in objects {
@@ -90,7 +93,8 @@ fn push_all(alloc: Global, out: &mut Vec<u8>, objects: &[Object<'_>]) -> Result<
 }
 
 fn add_nodes<'a>(out: &mut Vec<Object<'a>>, nodes: &'a [LnDef]) -> Result<(), AllocError>
-    ensures { OnOk result (map line_of out.new.items ≡ map line_of out.old.items ++ map Ln nodes.now) }
+    ensures { OnOk result (map line_of out.new.items ≡ map line_of out.old.items
+        ++ map Ln nodes.now) }
 {
     for node in nodes {
         out.push(Object::Node(node))?;
@@ -99,7 +103,8 @@ fn add_nodes<'a>(out: &mut Vec<Object<'a>>, nodes: &'a [LnDef]) -> Result<(), Al
 }
 
 fn add_attributes<'a>(out: &mut Vec<Object<'a>>, attrs: &'a [AttrDef]) -> Result<(), AllocError>
-    ensures { OnOk result (map line_of out.new.items ≡ map line_of out.old.items ++ map Attr attrs.now) }
+    ensures { OnOk result (map line_of out.new.items ≡ map line_of out.old.items
+        ++ map Attr attrs.now) }
 {
     for attr in attrs {
         out.push(Object::Attribute(attr))?;
@@ -108,7 +113,8 @@ fn add_attributes<'a>(out: &mut Vec<Object<'a>>, attrs: &'a [AttrDef]) -> Result
 }
 
 fn add_sets<'a>(out: &mut Vec<Object<'a>>, sets: &'a [SetDef]) -> Result<(), AllocError>
-    ensures { OnOk result (map line_of out.new.items ≡ map line_of out.old.items ++ map Set sets.now) }
+    ensures { OnOk result (map line_of out.new.items ≡ map line_of out.old.items
+        ++ map Set sets.now) }
 {
     for set in sets {
         out.push(Object::Set(set))?;
@@ -117,7 +123,8 @@ fn add_sets<'a>(out: &mut Vec<Object<'a>>, sets: &'a [SetDef]) -> Result<(), All
 }
 
 fn add_blocks<'a>(out: &mut Vec<Object<'a>>, blocks: &'a [BlockDef]) -> Result<(), AllocError>
-    ensures { OnOk result (map line_of out.new.items ≡ map line_of out.old.items ++ map Brcb blocks.now) }
+    ensures { OnOk result (map line_of out.new.items ≡ map line_of out.old.items
+        ++ map Brcb blocks.now) }
 {
     for block in blocks {
         out.push(Object::Block(block))?;
@@ -126,7 +133,8 @@ fn add_blocks<'a>(out: &mut Vec<Object<'a>>, blocks: &'a [BlockDef]) -> Result<(
 }
 
 fn add_controls<'a>(out: &mut Vec<Object<'a>>, controls: &'a [CtlDef]) -> Result<(), AllocError>
-    ensures { OnOk result (map line_of out.new.items ≡ map line_of out.old.items ++ map Ctl controls.now) }
+    ensures { OnOk result (map line_of out.new.items ≡ map line_of out.old.items
+        ++ map Ctl controls.now) }
 {
     for control in controls {
         out.push(Object::Control(control))?;
@@ -135,7 +143,8 @@ fn add_controls<'a>(out: &mut Vec<Object<'a>>, controls: &'a [CtlDef]) -> Result
 }
 
 fn add_groups<'a>(out: &mut Vec<Object<'a>>, groups: &'a [SgDef]) -> Result<(), AllocError>
-    ensures { OnOk result (map line_of out.new.items ≡ map line_of out.old.items ++ map Sgcb groups.now) }
+    ensures { OnOk result (map line_of out.new.items ≡ map line_of out.old.items
+        ++ map Sgcb groups.now) }
 {
     for group in groups {
         out.push(Object::Groups(group))?;
@@ -166,7 +175,7 @@ fn ordered_objects<'a>(alloc: Global, config: &'a Config) -> Result<Vec<Object<'
 }
 
 /// The text that is written for a configuration: its lines in the order of their numbers, each in its shortest spelling,
-/// without empty lines and remarks. A domain's `ld` stands before the first of its logical nodes. Fails for want of memory
+/// without empty lines and remarks. A domain's `ld` stands before the first of its logical nodes. Fails when out of memory
 /// alone.
 #[tactic(auto, unfolding(crate::specs::Written::written))]
 pub fn written_text(alloc: Global, config: &Config) -> Result<Octs, AllocError>

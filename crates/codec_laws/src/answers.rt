@@ -1,8 +1,11 @@
 //! The tags of responses alone (ISO 9506-2, Confirmed-ResponsePDU and the productions below it), by their numbers.
 
 ghost use Rattle.std.specs.Prelude.{◌≡◌};
-ghost use Rattle.bay_answers.specs.declared.tags.TheConstants.{STATUS, IDENTIFY, DEFINE_LIST, LIST_OF_IDENTIFIER, MORE_FOLLOWS, VENDOR_NAME};
-ghost use Rattle.bay_answers.specs.declared.tags.TheConstants.{MODEL_NAME, REVISION, MMS_DELETABLE, TYPE_DESCRIPTION, LIST_OF_VARIABLE};
+ghost use Rattle.bay_answers.specs.declared.tags.TheConstants.{STATUS, IDENTIFY, DEFINE_LIST};
+ghost use Rattle.bay_answers.specs.declared.tags.TheConstants.{LIST_OF_IDENTIFIER, MORE_FOLLOWS};
+ghost use Rattle.bay_answers.specs.declared.tags.TheConstants.{VENDOR_NAME};
+ghost use Rattle.bay_answers.specs.declared.tags.TheConstants.{MODEL_NAME, REVISION, MMS_DELETABLE};
+ghost use Rattle.bay_answers.specs.declared.tags.TheConstants.{TYPE_DESCRIPTION, LIST_OF_VARIABLE};
 ghost use Rattle.bay_answers.specs.declared.tags.TheConstants.{NUMBER_MATCHED, NUMBER_DELETED};
 
 /// The tags of responses alone (ISO 9506-2, Confirmed-ResponsePDU and the productions below it): the numbers of the code's
@@ -15,7 +18,8 @@ pub fn tags_of_answers_are_the_standards()
     // Identify-Response
     ensures identities { (VENDOR_NAME ≡ 0x80) × (MODEL_NAME ≡ 0x81) × (REVISION ≡ 0x82) }
     // GetVariableAccessAttributes-Response and GetNamedVariableListAttributes-Response
-    ensures attributes { (MMS_DELETABLE ≡ 0x80) × (TYPE_DESCRIPTION ≡ 0xa2) × (LIST_OF_VARIABLE ≡ 0xa1) }
+    ensures attributes { (MMS_DELETABLE ≡ 0x80) × (TYPE_DESCRIPTION ≡ 0xa2)
+        × (LIST_OF_VARIABLE ≡ 0xa1) }
     // DeleteNamedVariableList-Response
     ensures deletions { (NUMBER_MATCHED ≡ 0x80) × (NUMBER_DELETED ≡ 0x81) }
 {}

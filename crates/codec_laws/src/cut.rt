@@ -13,8 +13,10 @@ ghost use Rattle.bay_answers.specs.Replies.{names_response, reply_octets, respon
 /// A bay keeps of a list of names those that a PDU of this size can hold, and the one after them; and of a read whose values
 /// alone are longer than a PDU, nothing but the error. The response is that of the whole list, and of all that was read.
 pub fn cut_replies_are_answered_alike()
-    ensures names { (size invoke : ℕ) (names : List (List ℕ)) → size < 2 ^ 32 → All (λ n. length n < 2 ^ 32) names
+    ensures names { (size invoke : ℕ) (names : List (List ℕ)) → size < 2 ^ 32
+        → All (λ n. length n < 2 ^ 32) names
         → names_response size invoke (within size names) ≡ names_response size invoke names }
     ensures reads { (c : Config) (size invoke : ℕ) (asked : Asked) (results : List (Result Value ℕ))
-        → reply_octets c size invoke (read_reply size asked results) ≡ response size invoke READ (read_content asked results) }
+        → reply_octets c size invoke (read_reply size asked results) ≡ response size invoke READ
+        (read_content asked results) }
 {}

@@ -1,7 +1,8 @@
 //! The codes of TPDUs and of their parameters (ISO 8073, "Structure and encoding of TPDUs"), by their numbers.
 
 ghost use Rattle.std.specs.Prelude.{◌≡◌};
-ghost use Rattle.tpkt_cotp.specs.declared.codes.TheConstants.{CR, CC, DR, DT, ER, TPDU_SIZE, CALLING, CALLED, END_OF_TSDU};
+ghost use Rattle.tpkt_cotp.specs.declared.codes.TheConstants.{CR, CC, DR, DT, ER, TPDU_SIZE};
+ghost use Rattle.tpkt_cotp.specs.declared.codes.TheConstants.{CALLING, CALLED, END_OF_TSDU};
 
 /// The codes of TPDUs and of their parameters (ISO 8073, "Structure and encoding of TPDUs"): the numbers of the code's table, which
 /// the definitions of `tpkt_cotp` read too.

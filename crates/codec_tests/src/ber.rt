@@ -9,7 +9,7 @@ use std::test::*;
 
 /// What octets are.
 enum Told {
-    /// They begin with an element of this tag, and its head, its content and the rest have so many octets.
+    /// They begin with an element of this tag, and its head, its content and the rest have n octets.
     Element(u32, usize, usize, usize),
     NoElement(BerFault),
     /// The content of an integer, or of an unsigned one.

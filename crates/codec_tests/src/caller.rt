@@ -1,4 +1,4 @@
-//! The calling side of a connection of IEC 61850-8-1: what it sends, and what it tells of a server's stream, however that is
+//! The calling side of a connection of IEC 61850-8-1: what it sends, and what it says of a server's stream, however that is
 //! cut. The octets are made by hand from RFC 1006, ISO 8073, ISO 8327-1, ISO 8823-1, ISO 8650-1 and ISO 9506-2.
 
 ghost use Rattle.std.specs.Prelude.{◌≢◌};
@@ -98,7 +98,7 @@ fn put_events(out: &mut Vec<u8>, events: &Events) -> Result<(), AllocError> {
     Ok(())
 }
 
-/// Whether what is told of a stream in pieces of so many octets is what is wanted.
+/// Whether what is told of a stream in pieces of n octets is what is wanted.
 fn is_told(alloc: Global, size: usize) -> Result<bool, AllocError>
     requires { size ≢ 0 }
 {
@@ -113,7 +113,7 @@ fn is_told(alloc: Global, size: usize) -> Result<bool, AllocError>
     Ok(!refused && told.as_slice() == TOLD)
 }
 
-/// Whether the stream with another octet is refused so behind the CC.
+/// Whether the stream with another octet is refused so after the CC.
 fn is_refused(alloc: Global, place: usize, octet: u8, cause: [u8; 2]) -> Result<bool, AllocError> {
     let mut stream = STREAM;
     if let Some(found) = stream.get_mut(place) {

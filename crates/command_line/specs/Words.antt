@@ -10,7 +10,7 @@ use Rattle.std.specs.declared.io.ErrorKind.TheVariants as kinds
 abbrev pub IsWord : List ℕ → List (String Global) → Type 0
 IsWord word words = map string_bytes words ≡ word ∷ []
 
--- std gives no words of a command line, and not for want of memory: one of them isn't UTF-8
+-- std gives no words of a command line, and not for lack of memory: one of them isn't UTF-8
 abbrev pub IsForeign : {A : Type 0} → Result A Error → Type 0
 IsForeign (Ok words) = ⊥
 IsForeign (Err e) = error_kind e ≢ kinds.OutOfMemory

@@ -26,11 +26,14 @@ pub struct Program {
 impl Program {
     /// What words show that ask for no work: the use for `-h` and for `--help`, the version for `--version`, each alone.
     pub fn shown(&self, words: &[String]) -> Option<&'static str>
-        ensures usage { IsWord (codes "-h") words.now ⊎ IsWord (codes "--help") words.now → result ≡ Some self.now.usage }
+        ensures usage { IsWord (codes "-h") words.now ⊎ IsWord (codes "--help") words.now
+            → result ≡ Some self.now.usage }
         ensures version { IsWord (codes "--version") words.now → result ≡ Some self.now.version }
-        ensures none { IfNone result ((IsWord (codes "-h") words.now → ⊥) × (IsWord (codes "--help") words.now → ⊥)
+        ensures none { IfNone result ((IsWord (codes "-h") words.now → ⊥)
+            × (IsWord (codes "--help") words.now → ⊥)
             × (IsWord (codes "--version") words.now → ⊥)) }
-        ensures some { IfSome result (λ t. IsWord (codes "-h") words.now ⊎ (IsWord (codes "--help") words.now ⊎ IsWord (codes "--version") words.now)) }
+        ensures some { IfSome result (λ t. IsWord (codes "-h") words.now
+            ⊎ (IsWord (codes "--help") words.now ⊎ IsWord (codes "--version") words.now)) }
     {
         if is_word(words, "-h") || is_word(words, "--help") {
             return Some(self.usage);
@@ -56,7 +59,8 @@ impl Program {
 /// Writes a text that is shown, and the status of that.
 pub fn show<K: Sink>(text: &str, sink: &mut K) -> Status
     ensures told { result ≡ Status.Ok → Appends (K.taken sink.old) (K.taken sink.new) text.now }
-    ensures write { result ≢ Status.Ok → (result ≡ Status.WriteFault) × Rose (K.faults sink.old) (K.faults sink.new) }
+    ensures write { result ≢ Status.Ok → (result ≡ Status.WriteFault) × Rose (K.faults sink.old)
+        (K.faults sink.new) }
 {
     match sink.write_all(text.as_bytes()) {
         Ok(()) => Status::Ok,

@@ -32,8 +32,8 @@ fn without_words(error: &Error) -> Status
     }
 }
 
-/// The words behind the program's name, of what std gives of a command line; else the status that says why there are none: Words where
-/// one of them isn't UTF-8, Memory for want of memory.
+/// The words after the program's name, of what std gives of a command line; else the status that says why there are none: Words where
+/// one of them isn't UTF-8, Memory when out of memory.
 pub fn words_of(alloc: Global, args: Result<Args, Error>) -> Result<Vec<String>, Status>
     ensures given { IfOk result (λ v. IfOk args (λ a. v.items ≡ drop 1 (into_iter_items a))) }
     ensures words { (result ≡ Err Status.Words) ↔ IsForeign args }

@@ -421,7 +421,7 @@ other_dones c h is k good none = rw same (either (is_enhanced c k) refl none) wh
   either true e f = rests k (last_oper k (points c h)) (execution c k (points c h)) (held c k e h is) f
   either false e f = rw (idle c k e (points c h)) refl
 
--- ---- behind a reply
+-- ---- after a reply
 
 tests-singles : (c : Model) (a n m : ℕ) (ss : List Single) (past : Past) → tests c n (after_singles c a n m ss past) ≡ tests c n past ++ tests_in c (outcomes c a n m ss past)
 tests-singles c a n m [] past = sym (append-nil (tests c n past))

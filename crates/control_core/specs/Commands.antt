@@ -32,7 +32,7 @@ pub record Said : Type 0 where
 abbrev pub command_said : Said → Command
 command_said s = record { value = s.value; or_cat = s.or_cat; or_ident = s.or_ident; ctl_num = s.ctl_num; test = s.test; rest = s.rest }
 
--- what stands in room that wasn't used yet
+-- what stands in memory that wasn't used yet
 abbrev pub blank : Said
 blank = record { value = plain (truth false); or_cat = pos 0; or_ident = []; ctl_num = 0; at = record { secs = 0; frac = 0; quality = 0 }; test = false; rest = more (plain (bits (false ∷ false ∷ []))) none }
 
@@ -62,7 +62,7 @@ abbrev pub bool_in : Seen → Option Bool
 bool_in (plain (truth b)) = Some b
 bool_in _ = None
 
--- orCat and orIdent, and nothing behind them
+-- orCat and orIdent, and nothing after them
 abbrev pub origin_end : ℤ → List ℕ → Row → Option (ℤ × List ℕ)
 origin_end z o none = Some (z, o)
 origin_end z o (more s r) = None

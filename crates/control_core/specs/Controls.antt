@@ -25,7 +25,7 @@ pub record ControlState : Type 0 where
 abbrev pub idle : Control → ControlState
 idle c = record { config = c; selection = None; execution = None; is_blocked = false }
 
--- the selection that stands at a moment, with a time of so many milliseconds
+-- the selection that stands at a moment, with a time of n milliseconds
 abbrev pub lasting : ℕ → ℕ → Option Selection → Option Selection
 lasting now timeout s = option_and_then (λ (h : Selection). if nat_lt now (h.since + timeout) then Some h else None) s
 

@@ -107,7 +107,7 @@ abbrev pub tests_in : Model → List Outcome → List ℕ
 tests_in c [] = []
 tests_in c (o ∷ os) = tests_of c (deed_of o) ++ tests_in c os
 
--- behind the reply to a request come the positive terminations of its own test operates, in their order
+-- after the reply to a request come the positive terminations of its own test operates, in their order
 abbrev pub TestsFollow : Type 0
 TestsFollow = (c : Model) (h : History) (t : Turn) (a : AssocNo) (r : Request) → put_by c a.0 (length h) (deed_at c (length h) t (points c h) (steps.Ask a r)) (asked c h t a.0 r)
     ≡ reply (output_for c (length h) t.moment a.0 r (points c h)) ∷ map (λ k. ending k true) (tests_in c (outcomes_of c (length h) t.moment a.0 r (points c h)))

@@ -41,14 +41,17 @@ pub struct CommandRef<'a> {
     pub rest: &'a [Value],
 }
 
-ghost use Rattle.std.specs.Prelude.{◌≡◌, ◌≤◌, ◌<◌, ◌&&◌, is_some, true, IfSome, None, Some, length, if◌then◌else◌};
+ghost use Rattle.std.specs.Prelude.{◌≡◌, ◌≤◌, ◌<◌, ◌&&◌, is_some, true, IfSome, None, Some, length};
+ghost use Rattle.std.specs.Prelude.{if◌then◌else◌};
 ghost use Rattle.std.specs.Option.{option_map};
 ghost use Rattle.sv_base.specs.Seen.{seen_of, row_of};
 ghost use Rattle.bay_model.specs.Model.{operate};
 ghost use Rattle.sv_base.specs.Kinds.{is_kind, is_in_range};
 ghost use Rattle.bay_model.specs.Commands.{command_of as command_in, is_command, is_rest};
-ghost use Rattle.control_core.specs.Commands.{int_in, octets_in, uint_in, time_in, bool_in, kind_in, origin_row, origin_in, parts_in, said_in};
-ghost use Rattle.control_core.specs.Commands.{of_kind, seen_val, rest_checked, said, value_said, is_limited};
+ghost use Rattle.control_core.specs.Commands.{int_in, octets_in, uint_in, time_in, bool_in};
+ghost use Rattle.control_core.specs.Commands.{kind_in, origin_row, origin_in, parts_in, said_in};
+ghost use Rattle.control_core.specs.Commands.{of_kind, seen_val, rest_checked, said, value_said};
+ghost use Rattle.control_core.specs.Commands.{is_limited};
 
 fn int_of(value: &Value) -> Option<i64>
     ensures { result ≡ int_in (seen_of value.now) }
@@ -98,7 +101,8 @@ fn bool_of(value: &Value) -> Option<bool>
 /// A ctlVal of its type and in its range.
 fn ctl_val(kind: CtlKind, value: &Value) -> Option<CtlVal>
     ensures found { IfSome result (λ v. seen_of value.now ≡ seen_val v) }
-    ensures typed { is_some result ≡ (is_kind (kind_in kind) value.now && is_in_range (kind_in kind) value.now) }
+    ensures typed { is_some result ≡ (is_kind (kind_in kind) value.now && is_in_range
+        (kind_in kind) value.now) }
 {
     match kind {
         CtlKind::Bool => match value {
@@ -173,7 +177,8 @@ fn command_of(kind: CtlKind, value: &Value) -> Option<CommandRef<'_>>
 
 /// SBOw and Oper end with the two bits of Check, Cancel with Test.
 fn check_of(rest: &[Value]) -> Option<Check>
-    ensures { option_map rest_checked result ≡ (if is_rest operate (row_of rest.now) then Some (row_of rest.now) else None) }
+    ensures { option_map rest_checked result ≡ (if is_rest operate (row_of rest.now)
+        then Some (row_of rest.now) else None) }
 {
     match rest {
         [Value::Bits(bits)] => match bits.as_slice() {
@@ -223,7 +228,7 @@ pub fn read(kind: CtlKind, call: Call, value: &Value) -> Option<CommandRef<'_>>
     }
 }
 
-/// The two bits of Check behind Test.
+/// The two bits of Check after Test.
 pub fn check_in(rest: &[Value]) -> Check
     requires { is_rest operate (row_of rest.now) ≡ true }
     ensures { rest_checked result ≡ row_of rest.now }

@@ -90,19 +90,25 @@ fn kind_of(kind: &TypeOf) -> CtlKind
 }
 
 impl Control {
-    ghost use Rattle.std.specs.Prelude.{◌≡◌, ◌≤◌, ◌<◌, ◌++◌, true, false, is_some, Some, None, length, IfOk, IfSome, OnOk, OnErr, ◌==◌, if◌then◌else◌};
+    ghost use Rattle.std.specs.Prelude.{◌≡◌, ◌≤◌, ◌<◌, ◌++◌, true, false, is_some, Some, None};
+    ghost use Rattle.std.specs.Prelude.{length, IfOk, IfSome, OnOk, OnErr, ◌==◌, if◌then◌else◌};
     ghost use Rattle.std.specs.Option.{option_map};
     ghost use Rattle.sv_base.specs.Seen.{row_of};
-    ghost use Rattle.bay_model.specs.Model.{operate as operate_call, select as select_call, cancel as cancel_call};
+    ghost use Rattle.bay_model.specs.Model.{operate as operate_call, select as select_call};
+    ghost use Rattle.bay_model.specs.Model.{cancel as cancel_call};
     ghost use Rattle.bay_model.specs.Commands.{is_rest, command_of, is_command};
     ghost use Rattle.bay_model.specs.Calls.{first_cause};
     ghost use Rattle.bay_model.specs.Configured.{control_defined};
     ghost use Rattle.control_core.specs.Opening.{IsCtlKind, IsNumber};
     ghost use Rattle.control_core.specs.Commands.{said, command_said, value_said, seen_val};
     ghost use Rattle.bay_model.specs.Selections.{without_a};
-    ghost use Rattle.control_core.specs.Controls.{idle, causes_at, went_at, can_select_at, selected_by, cancelled_by, operated_by, done as done_to};
-    ghost use Rattle.control_core.specs.Controls.{due as due_in, lost_by, stopped, blocked_as, is_selectable as is_selectable_in};
-    ghost use Rattle.control_core.specs.Controls.{is_enhanced as is_enhanced_in, error_at, terminations, begun, renewed};
+    ghost use Rattle.control_core.specs.Controls.{idle, causes_at, went_at, can_select_at};
+    ghost use Rattle.control_core.specs.Controls.{selected_by, cancelled_by, operated_by};
+    ghost use Rattle.control_core.specs.Controls.{done as done_to};
+    ghost use Rattle.control_core.specs.Controls.{due as due_in, lost_by, stopped, blocked_as};
+    ghost use Rattle.control_core.specs.Controls.{is_selectable as is_selectable_in};
+    ghost use Rattle.control_core.specs.Controls.{is_enhanced as is_enhanced_in, error_at};
+    ghost use Rattle.control_core.specs.Controls.{terminations, begun, renewed};
     ghost use Rattle.sv_base.specs.Same.{value_of};
     ghost use Rattle.control_core.specs.declared.control.Went.TheVariants as outcomes;
     ghost use Rattle.control_core.specs.Answers.{went_of, effect_in, effect_at};
@@ -153,7 +159,8 @@ impl Control {
     }
 
     fn cause_of_operate(&self, now: Moment, a: AssocNo, command: &CommandRef<'_>) -> Option<u8>
-        ensures { result ≡ first_cause (causes_at now operate_call a.0 (Some (command_said (said command.now))) self.now) }
+        ensures { result ≡ first_cause (causes_at now operate_call a.0
+            (Some (command_said (said command.now))) self.now) }
     {
         if self.model == ctl_models::STATUS_ONLY {
             Some(add_causes::NOT_SUPPORTED)
@@ -175,7 +182,8 @@ impl Control {
     }
 
     fn cause_of_cancel(&self, now: Moment, a: AssocNo, command: &CommandRef<'_>) -> Option<u8>
-        ensures { result ≡ first_cause (causes_at now cancel_call a.0 (Some (command_said (said command.now))) self.now) }
+        ensures { result ≡ first_cause (causes_at now cancel_call a.0
+            (Some (command_said (said command.now))) self.now) }
     {
         if self.executed.is_running() {
             Some(add_causes::COMMAND_ALREADY_IN_EXECUTION)
@@ -193,7 +201,8 @@ impl Control {
     }
 
     fn cause(&self, now: Moment, call: Call, a: AssocNo, command: &CommandRef<'_>) -> Option<u8>
-        ensures { result ≡ first_cause (causes_at now call a.0 (Some (command_said (said command.now))) self.now) }
+        ensures { result ≡ first_cause
+            (causes_at now call a.0 (Some (command_said (said command.now))) self.now) }
     {
         match call {
             Call::Select => self.cause_of_select(now),
@@ -229,7 +238,8 @@ impl Control {
     /// A read of SBO: whether it selects.
     pub fn select(&mut self, now: Moment, a: AssocNo) -> bool
         ensures answer { result ≡ can_select_at now self.old }
-        ensures left { self.new ≡ (if can_select_at now self.old then selected_by now a.0 None self.old else self.old) }
+        ensures left { self.new ≡ (if can_select_at now self.old
+            then selected_by now a.0 None self.old else self.old) }
     {
         if self.executed.is_running()
             || self.is_blocked
@@ -246,7 +256,8 @@ impl Control {
         requires typed { is_command self.old.config.kind select_call (command_of value.now) ≡ true }
         ensures went { went_of result ≡ went_at now select_call a.0 value.now self.old }
         ensures plain { IfOk result (λ w. w ≡ outcomes.Plain) }
-        ensures selected { OnOk result (self.new ≡ selected_by now a.0 (command_of value.now) self.old) }
+        ensures selected { OnOk result (self.new ≡ selected_by now a.0
+            (command_of value.now) self.old) }
         ensures kept { OnErr result (self.new ≡ self.old) }
     {
         let command = self.judge(now, Call::Select, a, value)?;
@@ -270,7 +281,8 @@ impl Control {
     /// The selection after an accepted Oper.
     fn use_selection(&mut self, now: Moment, a: AssocNo)
         ensures { self.new ≡ record self.old {
-          selection = if self.old.config.sbo_class == OPERATE_ONCE then without_a a.0 self.old.selection
+          selection = if self.old.config.sbo_class == OPERATE_ONCE
+              then without_a a.0 self.old.selection
               else renewed a.0 now self.old.selection;
         } }
     {
@@ -313,7 +325,8 @@ impl Control {
     /// Operate.
     pub fn operate(&mut self, now: Moment, a: AssocNo, value: &Value) -> Result<Went, u8>
         requires number { IsNumber a.0 }
-        requires typed { is_command self.old.config.kind operate_call (command_of value.now) ≡ true }
+        requires typed { is_command self.old.config.kind operate_call
+            (command_of value.now) ≡ true }
         ensures went { went_of result ≡ went_at now operate_call a.0 value.now self.old }
         ensures effect { IfOk result (λ w. w ≡ effect_at value.now self.old) }
         ensures operated { OnOk result (self.new ≡ operated_by now a.0 value.now self.old) }
@@ -326,7 +339,7 @@ impl Control {
         Ok(effect)
     }
 
-    /// The process ends what runs; tells for whom a termination is to be put.
+    /// The process ends what runs; returns for whom a termination is to be put.
     pub fn done(&mut self) -> Option<AssocNo>
         ensures due { option_map (λ a. a.0) result ≡ due_in self.old.execution }
         ensures number { IfSome result (λ a. IsNumber a.0) }
@@ -373,7 +386,8 @@ impl Control {
 
     /// The ctlVal of an Oper.
     pub fn ctl_val(&self, value: &Value) -> Value
-        requires typed { is_command self.now.config.kind operate_call (command_of value.now) ≡ true }
+        requires typed { is_command self.now.config.kind operate_call
+            (command_of value.now) ≡ true }
         ensures { option_map (λ m. value_of m.value) (command_of value.now) ≡ Some result }
     {
         match read(self.kind, Call::Operate, value) {

@@ -59,23 +59,28 @@ fn open_all(alloc: Global, defs: &[CtlDef]) -> Result<Vec<Control>, AllocError>
 }
 
 impl Controls {
-    ghost use Rattle.std.specs.Prelude.{◌≡◌, ◌<◌, ◌==◌, true, is_some, Some, None, map, length, IfOk, IfSome, OnOk, OnErr, if◌then◌else◌};
+    ghost use Rattle.std.specs.Prelude.{◌≡◌, ◌<◌, ◌==◌, true, is_some, Some, None, map, length};
+    ghost use Rattle.std.specs.Prelude.{IfOk, IfSome, OnOk, OnErr, if◌then◌else◌};
     ghost use Rattle.std.specs.Option.{option_map};
     ghost use Rattle.std.specs.List.{All};
     ghost use Rattle.sv_base.specs.Same.{value_of};
     ghost use Rattle.sv_base.specs.declared.config.CtlDef.{CtlDef};
-    ghost use Rattle.bay_model.specs.Model.{operate as operate_call, select as select_call, cancel as cancel_call};
-    ghost use Rattle.bay_model.specs.Points.{called, selected_control, finished, blocked, lost as lost_deed};
+    ghost use Rattle.bay_model.specs.Model.{operate as operate_call, select as select_call};
+    ghost use Rattle.bay_model.specs.Model.{cancel as cancel_call};
+    ghost use Rattle.bay_model.specs.Points.{called, selected_control, finished, blocked};
+    ghost use Rattle.bay_model.specs.Points.{lost as lost_deed};
     ghost use Rattle.bay_model.specs.Commands.{command_of, is_command};
     ghost use Rattle.bay_model.specs.Configured.{control_defined};
     ghost use Rattle.control_core.specs.declared.control.Went.TheVariants as outcomes;
     ghost use Rattle.control_core.specs.Opening.{IsCtlKind, IsNumber};
-    ghost use Rattle.control_core.specs.Controls.{went_at, can_select_at, due as due_in, stopped, error_at, terminations};
+    ghost use Rattle.control_core.specs.Controls.{went_at, can_select_at, due as due_in, stopped};
+    ghost use Rattle.control_core.specs.Controls.{error_at, terminations};
     ghost use Rattle.control_core.specs.Answers.{went_of, effect_at};
-    ghost use Rattle.control_core.specs.Tables.{control_at, changed, opened_of, at_moment, after_deed};
+    ghost use Rattle.control_core.specs.Tables.{control_at, changed, opened_of, at_moment};
+    ghost use Rattle.control_core.specs.Tables.{after_deed};
 
     /// The controls as they are configured, at the least moment: none is selected, runs or is blocked. It takes all the memory
-    /// that their calls need, for each control room for two commands.
+    /// that their calls need, for each control memory for two commands.
     pub fn open(alloc: Global, config: &Config) -> Result<Controls, AllocError>
         requires { All (λ (d : CtlDef). IsCtlKind d.kind) config.now.controls }
         ensures { IfOk result (λ t. t ≡ opened_of (map control_defined config.now.controls)) }
@@ -112,7 +117,8 @@ impl Controls {
     /// included.
     pub fn is_typed(&self, c: CtlNo, call: Call, value: &Value) -> bool
         requires { c.0 < length self.now.controls }
-        ensures { result ≡ is_command (control_at self.now.controls c.0).config.kind call (command_of value.now) }
+        ensures { result ≡ is_command (control_at self.now.controls c.0).config.kind call
+            (command_of value.now) }
     {
         self.controls[c.0 as usize].is_typed(call, value)
     }
@@ -129,7 +135,8 @@ impl Controls {
     pub fn select(&mut self, c: CtlNo, a: AssocNo) -> bool
         requires { c.0 < length self.old.controls }
         ensures answer { result ≡ can_select_at self.old.moment (control_at self.old.controls c.0) }
-        ensures left { self.new ≡ (if can_select_at self.old.moment (control_at self.old.controls c.0) then
+        ensures left { self.new ≡ (if can_select_at self.old.moment
+            (control_at self.old.controls c.0) then
             after_deed (selected_control a.0 c.0) self.old else self.old) }
     {
         self.controls[c.0 as usize].select(self.moment, a)
@@ -139,10 +146,13 @@ impl Controls {
     /// it is selected by anyone; 9 it is blocked. Then nothing changes.
     pub fn select_with(&mut self, c: CtlNo, a: AssocNo, value: &Value) -> Result<Went, u8>
         requires control { c.0 < length self.old.controls }
-        requires typed { is_command (control_at self.old.controls c.0).config.kind select_call (command_of value.now) ≡ true }
-        ensures went { went_of result ≡ went_at self.old.moment select_call a.0 value.now (control_at self.old.controls c.0) }
+        requires typed { is_command (control_at self.old.controls c.0).config.kind select_call
+            (command_of value.now) ≡ true }
+        ensures went { went_of result ≡ went_at self.old.moment select_call a.0 value.now
+            (control_at self.old.controls c.0) }
         ensures plain { IfOk result (λ w. w ≡ outcomes.Plain) }
-        ensures selected { OnOk result (self.new ≡ after_deed (called a.0 c.0 select_call value.now) self.old) }
+        ensures selected { OnOk result
+            (self.new ≡ after_deed (called a.0 c.0 select_call value.now) self.old) }
         ensures kept { OnErr result (self.new ≡ self.old) }
     {
         self.controls[c.0 as usize].select_with(self.moment, a, value)
@@ -154,10 +164,14 @@ impl Controls {
     pub fn operate(&mut self, c: CtlNo, a: AssocNo, value: &Value) -> Result<Went, u8>
         requires number { IsNumber a.0 }
         requires control { c.0 < length self.old.controls }
-        requires typed { is_command (control_at self.old.controls c.0).config.kind operate_call (command_of value.now) ≡ true }
-        ensures went { went_of result ≡ went_at self.old.moment operate_call a.0 value.now (control_at self.old.controls c.0) }
-        ensures effect { IfOk result (λ w. w ≡ effect_at value.now (control_at self.old.controls c.0)) }
-        ensures operated { OnOk result (self.new ≡ after_deed (called a.0 c.0 operate_call value.now) self.old) }
+        requires typed { is_command (control_at self.old.controls c.0).config.kind operate_call
+            (command_of value.now) ≡ true }
+        ensures went { went_of result ≡ went_at self.old.moment operate_call a.0 value.now
+            (control_at self.old.controls c.0) }
+        ensures effect { IfOk result (λ w. w ≡ effect_at value.now
+            (control_at self.old.controls c.0)) }
+        ensures operated { OnOk result
+            (self.new ≡ after_deed (called a.0 c.0 operate_call value.now) self.old) }
         ensures kept { OnErr result (self.new ≡ self.old) }
     {
         self.controls[c.0 as usize].operate(self.moment, a, value)
@@ -167,10 +181,13 @@ impl Controls {
     /// selected by another; 18 it isn't selected by the caller; 26 as for `operate` (ctlModel 4). Then nothing changes.
     pub fn cancel(&mut self, c: CtlNo, a: AssocNo, value: &Value) -> Result<Went, u8>
         requires control { c.0 < length self.old.controls }
-        requires typed { is_command (control_at self.old.controls c.0).config.kind cancel_call (command_of value.now) ≡ true }
-        ensures went { went_of result ≡ went_at self.old.moment cancel_call a.0 value.now (control_at self.old.controls c.0) }
+        requires typed { is_command (control_at self.old.controls c.0).config.kind cancel_call
+            (command_of value.now) ≡ true }
+        ensures went { went_of result ≡ went_at self.old.moment cancel_call a.0 value.now
+            (control_at self.old.controls c.0) }
         ensures plain { IfOk result (λ w. w ≡ outcomes.Plain) }
-        ensures cancelled { OnOk result (self.new ≡ after_deed (called a.0 c.0 cancel_call value.now) self.old) }
+        ensures cancelled { OnOk result
+            (self.new ≡ after_deed (called a.0 c.0 cancel_call value.now) self.old) }
         ensures kept { OnErr result (self.new ≡ self.old) }
     {
         self.controls[c.0 as usize].cancel(self.moment, a, value)
@@ -180,7 +197,8 @@ impl Controls {
     /// CommandTermination is to be put (IEC 61850-7-2), positive where `good` and else negative; none exactly where none is due.
     pub fn done(&mut self, c: CtlNo, good: bool) -> Option<AssocNo>
         requires { c.0 < length self.old.controls }
-        ensures due { option_map (λ a. a.0) result ≡ due_in (control_at self.old.controls c.0).execution }
+        ensures due { option_map (λ a. a.0) result ≡ due_in
+            (control_at self.old.controls c.0).execution }
         ensures number { IfSome result (λ a. IsNumber a.0) }
         ensures left { self.new ≡ after_deed (finished c.0 good) self.old }
     {
@@ -214,7 +232,8 @@ impl Controls {
     /// The ctlVal of an Oper's value, a truth value or a number.
     pub fn ctl_val(&self, c: CtlNo, value: &Value) -> Value
         requires control { c.0 < length self.now.controls }
-        requires typed { is_command (control_at self.now.controls c.0).config.kind operate_call (command_of value.now) ≡ true }
+        requires typed { is_command (control_at self.now.controls c.0).config.kind operate_call
+            (command_of value.now) ≡ true }
         ensures { option_map (λ m. value_of m.value) (command_of value.now) ≡ Some result }
     {
         self.controls[c.0 as usize].ctl_val(value)
@@ -230,8 +249,10 @@ impl Controls {
         cause: u8,
     ) -> Result<ApplError, AllocError>
         requires control { c.0 < length self.now.controls }
-        requires typed { is_command (control_at self.now.controls c.0).config.kind call (command_of value.now) ≡ true }
-        ensures { IfOk result (λ e. e ≡ error_at (control_at self.now.controls c.0).config.reference call value.now cause) }
+        requires typed { is_command (control_at self.now.controls c.0).config.kind call
+            (command_of value.now) ≡ true }
+        ensures { IfOk result (λ e. e ≡ error_at
+            (control_at self.now.controls c.0).config.reference call value.now cause) }
     {
         self.controls[c.0 as usize].error(alloc, call, value, cause)
     }
@@ -248,7 +269,8 @@ impl Controls {
     pub fn oper(&self, alloc: Global, c: CtlNo) -> Result<Value, AllocError>
         requires control { c.0 < length self.now.controls }
         requires running { is_some (control_at self.now.controls c.0).execution ≡ true }
-        ensures { IfOk result (λ v. Some v ≡ option_map (λ e. e.oper) (control_at self.now.controls c.0).execution) }
+        ensures { IfOk result (λ v. Some v ≡ option_map (λ e. e.oper)
+            (control_at self.now.controls c.0).execution) }
     {
         self.controls[c.0 as usize].oper(alloc)
     }
@@ -262,7 +284,8 @@ impl Controls {
     ) -> Result<Termination, AllocError>
         requires control { c.0 < length self.now.controls }
         requires running { is_some (control_at self.now.controls c.0).execution ≡ true }
-        ensures { IfOk result (λ t. Some t ≡ terminations c good (control_at self.now.controls c.0)) }
+        ensures { IfOk result (λ t. Some t ≡ terminations c good
+            (control_at self.now.controls c.0)) }
     {
         self.controls[c.0 as usize].termination(alloc, c, good)
     }

@@ -25,7 +25,7 @@ struct Running {
     stage: Stage,
 }
 
-/// What a control with enhanced security executes, if anything, in room that was made before. Contracts see it.
+/// What a control with enhanced security executes, if anything, in memory that was allocated before. Contracts see it.
 #[derive(Drop)]
 pub struct Executed {
     running: Option<Running>,
@@ -48,13 +48,18 @@ impl Model for Executed {
 
     ghost coded = { Prim.hlevel (codes, row_code, phase_code) };
 
-    ghost view = { λ s. option_map (λ r. record { by = r.by.0; oper = value_said s.kept; phase = phase_in r.stage }) s.running };
+    ghost view = { λ s. option_map (λ r. record {
+      by = r.by.0;
+      oper = value_said s.kept;
+      phase = phase_in r.stage;
+    }) s.running };
 
     ghost invariant = { λ s. IfSome s.running (λ r. IsNumber r.by.0) };
 }
 
 impl Executed {
-    ghost use Rattle.std.specs.Prelude.{◌≡◌, ◌≤◌, ◌<◌, true, is_some, Some, None, length, IfOk, IfSome};
+    ghost use Rattle.std.specs.Prelude.{◌≡◌, ◌≤◌, ◌<◌, true, is_some, Some, None, length, IfOk};
+    ghost use Rattle.std.specs.Prelude.{IfSome};
     ghost use Rattle.std.specs.Option.{option_map};
     ghost use Rattle.sv_base.specs.Seen.{row_of};
     ghost use Rattle.bay_model.specs.Model.{operate};
@@ -99,7 +104,7 @@ impl Executed {
         });
     }
 
-    /// The process ends what runs; tells for whom a termination is to be put.
+    /// The process ends what runs; returns for whom a termination is to be put.
     pub fn finish(&mut self) -> Option<AssocNo>
         ensures due { option_map (λ a. a.0) result ≡ due self.old }
         ensures number { IfSome result (λ a. IsNumber a.0) }

@@ -1,10 +1,13 @@
 //! What the definitions of a control come to over whole histories, in the words in which a reader knows them. The functions run
 //! nothing: each contract is a law.
 
-ghost use Rattle.control_core.specs.CallsAccepted.{CallsAreAccepted, CallsAreTheAskers, StepsCallNothing, OpersAct, ActsAreOpers};
-ghost use Rattle.control_core.specs.ExecutionsAre.{ExecutionsAre, TerminationsAre, OtherDonesChangeNothing, TestsFollow};
+ghost use Rattle.control_core.specs.CallsAccepted.{CallsAreAccepted, CallsAreTheAskers};
+ghost use Rattle.control_core.specs.CallsAccepted.{StepsCallNothing, OpersAct, ActsAreOpers};
+ghost use Rattle.control_core.specs.ExecutionsAre.{ExecutionsAre, TerminationsAre};
+ghost use Rattle.control_core.specs.ExecutionsAre.{OtherDonesChangeNothing, TestsFollow};
 ghost use Rattle.control_core.specs.SelectionsAre.{SelectionsAre};
-ghost use Rattle.control_core.specs.TerminationsWait.{TerminationsWait, RunningAreOpen, TestsAreNew};
+ghost use Rattle.control_core.specs.TerminationsWait.{TerminationsWait, RunningAreOpen};
+ghost use Rattle.control_core.specs.TerminationsWait.{TestsAreNew};
 
 /// After every history an association has a control that can be selected selected exactly where the selection that stands is its.
 pub fn selections_are()

@@ -1,4 +1,4 @@
-//! A command in room that was made before.
+//! A command in memory that was allocated before.
 
 ghost use Rattle.std.specs.Prelude.{◌≡◌, ◌<◌, ◌++◌, ◌∷◌, [], IfOk};
 ghost use Rattle.bay_model.specs.Outputs.{name_of_call};
@@ -118,7 +118,7 @@ impl KeptCommand {
     ghost use Rattle.control_core.specs.Commands.{said, command_said, value_said, blank};
     ghost use Rattle.control_core.specs.Blame.{blame};
 
-    /// Room for a command.
+    /// Memory for a command.
     pub fn new(alloc: Global) -> Result<KeptCommand, AllocError>
         ensures { IfOk result (λ o. o ≡ blank) }
     {
@@ -170,7 +170,8 @@ impl KeptCommand {
 
     /// The value of its origin.
     fn origin_value(&self, alloc: Global) -> Result<Value, AllocError>
-        ensures { IfOk result (λ v. v ≡ kinds.Struct (more (plain (int self.now.or_cat)) (more (plain (octets self.now.or_ident)) none))) }
+        ensures { IfOk result (λ v. v ≡ kinds.Struct (more (plain (int self.now.or_cat))
+            (more (plain (octets self.now.or_ident)) none))) }
     {
         let ident = Octs::from_vec(Vec::from_slice(alloc, self.or_ident.as_slice())?);
         let parts = vec![in alloc; Value::Int(self.or_cat), Value::Octets(ident)]?;

@@ -14,7 +14,7 @@ struct Held {
     is_told: bool,
 }
 
-/// The selection of a control, if there is one, in room that was made before. Contracts see it.
+/// The selection of a control, if there is one, in memory that was allocated before. Contracts see it.
 #[derive(Drop)]
 pub struct Selected {
     held: Option<Held>,
@@ -35,7 +35,11 @@ impl Model for Selected {
 
     ghost coded = { Prim.hlevel (codes, row_code, seen_code) };
 
-    ghost view = { λ s. option_map (λ h. record { by = h.by.0; since = h.since; command = if h.is_told then Some (command_said s.kept) else None }) s.held };
+    ghost view = { λ s. option_map (λ h. record {
+      by = h.by.0;
+      since = h.since;
+      command = if h.is_told then Some (command_said s.kept) else None;
+    }) s.held };
 }
 
 impl Selected {
@@ -44,7 +48,8 @@ impl Selected {
     ghost use Rattle.bay_model.specs.Model.{operate};
     ghost use Rattle.bay_model.specs.Commands.{is_rest};
     ghost use Rattle.bay_model.specs.Selections.{without_a};
-    ghost use Rattle.bay_model.specs.Calls.{is_by as is_by_in, is_by_another as is_by_another_in, is_other_command};
+    ghost use Rattle.bay_model.specs.Calls.{is_by as is_by_in, is_by_another as is_by_another_in};
+    ghost use Rattle.bay_model.specs.Calls.{is_other_command};
     ghost use Rattle.control_core.specs.Commands.{said, command_said};
     ghost use Rattle.control_core.specs.Controls.{lasting, renewed};
 
@@ -74,7 +79,11 @@ impl Selected {
         requires short { length command.now.origin.ident.now ≤ 64 }
         requires few { command.now.ctl_num < 256 }
         requires checked { is_rest operate (row_of command.now.rest.now) ≡ true }
-        ensures { self.new ≡ Some (record { by = a.0; since = now; command = Some (command_said (said command.now)) }) }
+        ensures { self.new ≡ Some (record {
+          by = a.0;
+          since = now;
+          command = Some (command_said (said command.now));
+        }) }
     {
         self.kept.set(command);
         self.held = Some(Held {
@@ -142,7 +151,8 @@ impl Selected {
 
     /// A selection with another command stands.
     pub fn is_other(&self, now: Moment, timeout: u32, command: &CommandRef<'_>) -> bool
-        ensures { result ≡ is_other_command (Some (command_said (said command.now))) (lasting now timeout self.now) }
+        ensures { result ≡ is_other_command (Some (command_said (said command.now)))
+            (lasting now timeout self.now) }
     {
         match self.held {
             Some(held) => {

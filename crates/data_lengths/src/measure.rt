@@ -2,7 +2,8 @@
 
 ghost use Rattle.std.specs.Prelude.{◌≡◌, ◌+◌, ◌∷◌, ◌≤◌, ◌==◌, ◌&&◌, ◌||◌, nat_lt, length, min};
 ghost use Rattle.std.specs.Int.{to_be_bytes, cast_unsigned, w64, w32};
-ghost use Rattle.sv_base.specs.Data.{without_zeros as without_zeros_of, length_field, shortest as shortest_of, packed, data_of, data_row};
+ghost use Rattle.sv_base.specs.Data.{without_zeros as without_zeros_of, length_field};
+ghost use Rattle.sv_base.specs.Data.{shortest as shortest_of, packed, data_of, data_row};
 ghost use Rattle.sv_base.specs.Seen.{row_of};
 
 use sv_base::{Bits, Octs, Value};
@@ -20,7 +21,8 @@ pub fn without_zeros(octets: &[u8]) -> &[u8]
 
 /// The first octet of a number in two's complement says no more than the sign of the second.
 fn is_idle(first: u8, second: u8) -> bool
-    ensures { result ≡ (((first == 0) && nat_lt second 128) || ((first == 255) && nat_lt 127 second)) }
+    ensures { result ≡ (((first == 0) && nat_lt second 128)
+        || ((first == 255) && nat_lt 127 second)) }
 {
     (first == 0 && second < 128) || (first == 255 && second > 127)
 }
@@ -38,7 +40,7 @@ pub fn shortest(octets: &[u8]) -> &[u8]
     &octets[at..]
 }
 
-/// How many octets spell the length of a content of so many octets, 1 to 5.
+/// How many octets spell the length of a content of n octets, 1 to 5.
 fn length_len(content: u32) -> u32
     ensures value { result ≡ length (length_field content) }
     ensures few { result ≤ 5 }
@@ -49,7 +51,7 @@ fn length_len(content: u32) -> u32
     1 + without_zeros(&content.to_be_bytes()).len() as u32
 }
 
-/// How many octets an element has whose tag has one octet and whose content has so many (ITU-T X.690, 8.1), and
+/// How many octets an element has whose tag has one octet and whose content has n (ITU-T X.690, 8.1), and
 /// 4294967295 where there are more.
 pub fn element_len(content: u32) -> u32
     ensures { result ≡ min (1 + (length (length_field content) + content)) 4294967295 }

@@ -89,7 +89,7 @@ all_deleted (name ∷ ns) b n all used h = by (deletion b name) refl (λ b' all'
     by (Ok k) is go = go (after_delete k b) (without name all) (deletes b n k all used name h is)
     by (Err f) is go = go b all h
 
--- a set is among the first so many
+-- a set is among the first that many
 abbrev pub is_below : Option ℕ → ℕ → Bool
 is_below None n = false
 is_below (Some k) n = nat_lt k n

@@ -28,7 +28,7 @@ pub record Booked : Type 0 where
 abbrev pub seen : Entry → Booked
 seen e = record { name = e.name; nodes = e.nodes.items; holds = e.holds }
 
--- the first so many are the configured ones
+-- the first that many are the configured ones
 pub record Book : Type 0 where
   pub configured : ℕ
   pub sets : List Booked
@@ -99,7 +99,7 @@ define_fault b n is_named rows ts =
 abbrev pub defined_set : SetName → List Target → Booked
 defined_set n ts = record { name = n; nodes = map node_in ts; holds = 0 }
 
--- one more set, behind the others
+-- one more set, after the others
 abbrev pub with_set : Booked → Book → Book
 with_set s b = record b { sets = b.sets ++ s ∷ [] }
 
@@ -140,7 +140,7 @@ booked r = record { name = r.name; nodes = r.nodes; holds = 0 }
 abbrev pub opened : List SetRow → Book
 opened rows = record { configured = length rows; sets = map booked rows }
 
--- the node of a target is among so many
+-- the node of a target is among that many
 abbrev pub IsThere : ℕ → Target → Type 0
 IsThere count (targets.Node n name) = n.0 < count
 IsThere count _ = Unit {0}

@@ -3,7 +3,9 @@
 ghost use Rattle.std.specs.Prelude.{◌≡◌, IfOk, length, map};
 ghost use Rattle.std.specs.List.{list_all};
 ghost use Rattle.std.specs.Str.{bytes_eq};
-ghost use Rattle.data_sets.specs.Books.{is_name as is_named, seen, booked, largest_in, is_member as is_member_of, node_in, items_in, IsThere, AreTargets};
+ghost use Rattle.data_sets.specs.Books.{is_name as is_named, seen, booked, largest_in};
+ghost use Rattle.data_sets.specs.Books.{is_member as is_member_of, node_in, items_in, IsThere};
+ghost use Rattle.data_sets.specs.Books.{AreTargets};
 ghost use Rattle.bay_model.specs.Lookups.{reference_of};
 
 use bay_model::{Names, NodeRow, NodeTable, SetName, SetRow, SetTable, Target};
@@ -82,7 +84,8 @@ impl Model for SetBook {
 
     ghost view = { λ b. record { configured = b.configured; sets = map seen b.entries.items } };
 
-    ghost invariant = { λ b. (b.configured ≤ length b.entries.items) × (b.configured + 64 ≤ vec_capacity b.entries) };
+    ghost invariant = { λ b. (b.configured ≤ length b.entries.items)
+        × (b.configured + 64 ≤ vec_capacity b.entries) };
 }
 
 /// Whether the two names are the same.
@@ -226,11 +229,14 @@ impl SetBook {
     ghost use Rattle.std.specs.Prelude.{◌≡◌, ◌==◌, ◌<◌, ◌≤◌, ◌-◌, IfOk, length};
     ghost use Rattle.name_order.specs.Sorting.{names_above};
     ghost use Rattle.set_view.specs.Shapes.{AreThere, shapes_of};
-    ghost use Rattle.data_sets.specs.Books.{AreTargets, IsSet, nodes_in, largest, opened, number_named, number_referred, set_at};
-    ghost use Rattle.data_sets.specs.Books.{define_fault as define_fault_of, deletion as deletion_in, with_set, after_delete, after_hold};
+    ghost use Rattle.data_sets.specs.Books.{AreTargets, IsSet, nodes_in, largest, opened};
+    ghost use Rattle.data_sets.specs.Books.{number_named, number_referred, set_at};
+    ghost use Rattle.data_sets.specs.Books.{define_fault as define_fault_of};
+    ghost use Rattle.data_sets.specs.Books.{deletion as deletion_in, with_set, after_delete};
+    ghost use Rattle.data_sets.specs.Books.{after_hold};
     ghost use Rattle.data_sets.specs.Books.{after_release, items_in};
 
-    /// The configured data sets, which no report block names, and room for 64 that clients define.
+    /// The configured data sets, which no report block names, and memory for 64 that clients define.
     pub fn open(alloc: Global, sets: &SetTable) -> Result<SetBook, AllocError>
         ensures { IfOk result (λ b. b ≡ opened sets.now) }
     {
@@ -336,7 +342,7 @@ impl SetBook {
         None
     }
 
-    /// Defines a set, which takes the next number. It takes no memory: its room was made when the book was opened.
+    /// Defines a set, which takes the next number. It takes no memory: its memory was made when the book was opened.
     pub fn define(&mut self, definition: Definition)
         requires { length self.old.sets - self.old.configured < 64 }
         ensures { self.new ≡ with_set definition self.old }

@@ -7,7 +7,7 @@ use std::io::{self, Error, ErrorKind, Read, Write};
 use std::test::*;
 use sv_io::{Failed, ReadSource, Sink, Source, WriteSink};
 
-/// A reader and writer that gives or takes at most two octets a call. Its first calls are interrupted, so many, and two of
+/// A reader and writer that gives or takes at most two octets a call. Its first calls are interrupted, that many, and two of
 /// the others are the one that fails and the one that gives or takes nothing, by their numbers from 1; 0 is none.
 #[derive(Clone, Copy)]
 struct End {
@@ -24,7 +24,7 @@ struct Used {
 }
 
 impl Used {
-    /// How many octets of so many the next call gives or takes.
+    /// How many octets of n the next call gives or takes.
     fn call(&mut self, most: usize) -> io::Result<usize>
         ensures { IfOk result (λ n. n ≤ most) }
     {
@@ -97,7 +97,7 @@ static ROWS: [Row; 7] = [
     ((0, 2, 4), (2920, 1), (991, 2), (1, 0)),
     // one whose first call fails
     ((0, 1, 0), (9222, 1), (911, 1), (9, 1)),
-    // one whose third fails: of the writes the flush behind the first piece
+    // one whose third fails: of the writes the flush after the first piece
     ((0, 3, 0), (2292, 1), (911, 1), (1, 0)),
     // one that has ended at first: of a piece that isn't empty, to take nothing is a fault
     ((0, 0, 1), (222, 0), (911, 1), (1, 0)),

@@ -79,10 +79,12 @@ fn values_and_ticks<R: Threads + Wait + Sync + AllocGlobal, M: StateMachine>(
     let (mut made, other) = join(
         rt,
         || -> Pass<M>
-            requires { IsSend M.row × (pass.table ≡ history.now.table) × (pass.config ≡ history.now.config) }
+            requires { IsSend M.row × (pass.table ≡ history.now.table)
+                × (pass.config ≡ history.now.config) }
         { worked(rt, history, pass, Work::Values) },
         || -> Pass<M>
-            requires { IsSend M.row × (other.table ≡ history.now.table) × (other.config ≡ history.now.config) }
+            requires { IsSend M.row × (other.table ≡ history.now.table)
+                × (other.config ≡ history.now.config) }
         { worked(rt, history, other, Work::Ticks) },
     );
     history.join(&mut made, other);

@@ -43,7 +43,7 @@ newest-last [] e = refl
 newest-last (d ∷ []) e = refl
 newest-last (d ∷ f ∷ es) e = newest-last (f ∷ es) e
 
--- the same of the entries alone, of which so many were purged
+-- the same of the entries alone, of which that many were purged
 record HoldsAll (r : Ringed) (capacity gone : ℕ) (es : List Entry) : Type 0 where
   is_capacity : r.capacity ≡ capacity
   newest : r.newest ≡ length es

@@ -1,4 +1,4 @@
--- A room with one more entry.
+-- A buffer with one more entry.
 use Rattle.std.proofs.Common.{◌≡◌, ◌≤◌, ℕ, ◌+◌, ◌-◌, List, [], ◌∷◌, ◌++◌, length, take, drop, refl, sym, ap, ◌∙◌, arith, length-append}
 use Rattle.std.specs.Prelude.{Option, Some, min, slice_get}
 use Rattle.std.proofs.lemmas.List.{take_all}

@@ -1,4 +1,4 @@
--- Entries laid out in a circular room.
+-- Entries laid out in a circular buffer.
 use Rattle.std.proofs.Common.{◌≡◌, ◌≤◌, ◌<◌, ℕ, zero, suc, ◌+◌, ◌-◌, ◌*◌, List, [], ◌∷◌, ◌++◌, length, take, drop, refl, sym, ap, ◌∙◌, arith, inl, inr, length-append}
 use Rattle.std.specs.Prelude.{Option, Some, None, slice_get}
 use Rattle.std.specs.Option.{option_map}
@@ -32,7 +32,7 @@ behind-behind capacity at m n a h = elim (leb_tells (suc capacity) (at + m)) [
   ]
 ]
 
--- how far a place is behind is found again
+-- how far a place is after is found again
 pub offset-behind : (capacity begin o : ℕ) → begin ≤ capacity → o ≤ capacity → offset capacity begin (behind capacity begin o) ≡ o
 offset-behind capacity begin o b h = elim (leb_tells (suc capacity) (begin + o)) [
   | inl t ↦ let one = behind-over capacity begin o (omega (arith, t.1)) in
@@ -66,7 +66,7 @@ pub end-snoc : (capacity at : ℕ) (ps : List Place) (p : Place) → end_of capa
 end-snoc capacity at [] p = refl
 end-snoc capacity at (q ∷ ps) p = end-snoc capacity (behind capacity at q.len) ps p
 
--- one more behind the others
+-- one more after the others
 pub laid-snoc : (capacity at : ℕ) (ps : List Place) (octets row : List ℕ) (p : Place) → Laid capacity at ps octets → p.at ≡ end_of capacity at ps → p.len ≡ length row → Laid capacity at (ps ++ p ∷ []) (octets ++ row)
 laid-snoc capacity at [] octets row p laid a l = (a, rw (laid, l) (omega arith), rw (laid, l) (drop_all (length row) row (omega arith)))
 laid-snoc capacity at (q ∷ ps) octets row p laid a l = (

@@ -1,10 +1,10 @@
--- Entries laid out in a circular room: where each one's octets are.
+-- Entries laid out in a circular buffer: where each one's octets are.
 use Rattle.std.specs.Prelude.{◌≡◌, ◌≤◌, ℕ, List, [], ◌∷◌, length, take, drop}
 use Rattle.entry_ring.specs.declared.room.Place.{Place}
 use Rattle.entry_ring.specs.Held.{Held}
 use Rattle.entry_ring.specs.Places.{behind}
 
--- each place is behind the one before it, and its octets are there
+-- each place is after the one before it, and its octets are there
 abbrev pub Laid : ℕ → ℕ → List Place → List ℕ → Type 0
 Laid capacity at [] octets = octets ≡ []
 Laid capacity at (p ∷ ps) octets = (p.at ≡ at) × (p.len ≤ length octets) × Laid capacity (behind capacity at p.len) ps (drop p.len octets)

@@ -17,11 +17,14 @@ ghost use Rattle.entry_ring.specs.Standing.{Holds, after_all, after_point, empty
 pub fn retained_entries_are_held()
     ensures opened { (c : Model) (b : ℕ) → Holds (empty (block_of c b).capacity) c b [] }
     ensures point { (c : Model) (b : ℕ) (p : Point) (before : Past) (r : Ringed) (es : List Entry)
-        → Holds r c b before → selected c b (p ∷ before) ≡ appended (selected c b before) es → Holds (after_point c b p before r es) c b (p ∷ before) }
+        → Holds r c b before → selected c b (p ∷ before) ≡ appended (selected c b before) es
+        → Holds (after_point c b p before r es) c b (p ∷ before) }
     ensures arrival { (c : Model) (b m n : ℕ) (before : Past) (r : Ringed) (es : List Entry)
-        → Holds r c b before → selected c b (arrival n m ∷ before) ≡ appended (selected c b before) es → Holds (after_all r es) c b (arrival n m ∷ before) }
+        → Holds r c b before → selected c b (arrival n m ∷ before) ≡ appended
+        (selected c b before) es → Holds (after_all r es) c b (arrival n m ∷ before) }
     ensures deed { (c : Model) (b : ℕ) (p : Point) (before : Past) (r : Ringed) (es : List Entry)
-        → Holds r c b (arrival p.step p.moment ∷ before) → selected c b (p ∷ before) ≡ appended (selected c b (arrival p.step p.moment ∷ before)) es
+        → Holds r c b (arrival p.step p.moment ∷ before)
+        → selected c b (p ∷ before) ≡ appended (selected c b (arrival p.step p.moment ∷ before)) es
         → Holds (after_point c b p before r es) c b (p ∷ before) }
     ensures again { (c : Model) (b m n : ℕ) (q : Point) (before : Past) (r : Ringed)
         → m ≤ now (q ∷ before) → Holds r c b (q ∷ before) → Holds r c b (arrival n m ∷ q ∷ before) }

@@ -1,4 +1,4 @@
-//! The buffer of a report control block: its retained entries, in room that is made at once (IEC 61850-7-2, the buffer of a
+//! The buffer of a report control block: its retained entries, in memory that is made at once (IEC 61850-7-2, the buffer of a
 //! BRCB).
 #![tactic(auto)]
 

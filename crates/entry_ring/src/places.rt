@@ -1,9 +1,9 @@
-//! Places in a circular room.
+//! Places in a circular buffer.
 
 ghost use Rattle.std.specs.Prelude.{◌≡◌, ◌≤◌, ◌+◌, ◌++◌, take, drop, length};
 ghost use Rattle.entry_ring.specs.Places.{behind as behind_in, offset as offset_in};
 
-/// The place so many octets behind another.
+/// The place n octets after another.
 pub fn behind(capacity: usize, at: usize, len: usize) -> usize
     requires small { capacity ≤ 4294967295 }
     requires at { at ≤ capacity }
@@ -17,7 +17,7 @@ pub fn behind(capacity: usize, at: usize, len: usize) -> usize
     }
 }
 
-/// How far a place is behind another.
+/// How far a place is after another.
 pub fn offset(capacity: usize, begin: usize, at: usize) -> usize
     requires small { capacity ≤ 4294967295 }
     requires begin { begin ≤ capacity }
@@ -31,7 +31,7 @@ pub fn offset(capacity: usize, begin: usize, at: usize) -> usize
     }
 }
 
-/// So many octets from a place on, of two rows that follow each other.
+/// This many octets from a place on, of two rows that follow each other.
 pub fn cut<'a>(first: &'a [u8], second: &'a [u8], from: usize, len: usize) -> (&'a [u8], &'a [u8])
     requires { from + len ≤ length first.now + length second.now }
     ensures { result.0.now ++ result.1.now ≡ take len (drop from (first.now ++ second.now)) }

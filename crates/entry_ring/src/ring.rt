@@ -12,7 +12,10 @@ use sv_base::Moment;
 /// Drops as many of the oldest entries as have to go for an entry of this size.
 fn make_room(room: &mut Room, size: usize)
     requires { size ≤ room.old.capacity }
-    ensures { room.new ≡ record { capacity = room.old.capacity; entries = drop (least_for room.old.capacity size room.old.entries) room.old.entries } }
+    ensures { room.new ≡ record {
+      capacity = room.old.capacity;
+      entries = drop (least_for room.old.capacity size room.old.entries) room.old.entries;
+    } }
 {
     while room.capacity() - room.total() < size {
         room.discard();
@@ -52,9 +55,15 @@ impl Ring {
     ghost use Rattle.entry_ring.specs.Held.{Held};
     ghost use Rattle.entry_ring.specs.Ringed.{after_entry, after_purge, entry_at};
 
-    /// An empty buffer, with all the room for a capacity in octets, 1 to 1048576.
+    /// An empty buffer, with all the memory for a capacity in octets, 1 to 1048576.
     pub fn open(alloc: Global, capacity: u32) -> Result<Ring, AllocError>
-        ensures { IfOk result (λ r. r ≡ record { capacity = capacity; newest = 0; newest_moment = None; front = 0; entries = [] }) }
+        ensures { IfOk result (λ r. r ≡ record {
+          capacity = capacity;
+          newest = 0;
+          newest_moment = None;
+          front = 0;
+          entries = [];
+        }) }
     {
         Ok(Ring {
             newest: 0,
@@ -68,7 +77,11 @@ impl Ring {
     ///
     /// An entry takes 24 octets besides its own. `step` is the number of the step at which it came to be.
     pub fn append(&mut self, moment: Moment, step: u64, kept: &[u8])
-        ensures { self.new ≡ after_entry self.old (record { moment = moment; step = step; kept = kept.now }) }
+        ensures { self.new ≡ after_entry self.old (record {
+          moment = moment;
+          step = step;
+          kept = kept.now;
+        }) }
     {
         if self.newest == u64::MAX {
             return;

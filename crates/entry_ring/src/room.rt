@@ -1,4 +1,4 @@
-//! Entries in a room that is made at once.
+//! Entries in a buffer that is made at once.
 
 use crate::entry::Entry;
 use crate::places::{behind, cut, offset};
@@ -19,7 +19,7 @@ struct Place {
     len: u32,
 }
 
-/// Entries, the oldest first, in room for a capacity in octets.
+/// Entries, the oldest first, in memory for a capacity in octets.
 #[derive(Drop)]
 pub struct Room {
     capacity: usize,
@@ -37,18 +37,22 @@ impl Model for Room {
 
     ghost Value = { Roomed };
 
-    ghost view = { λ r. record { capacity = r.capacity; entries = held_in r.places.items r.octets.items } };
+    ghost view = { λ r. record {
+      capacity = r.capacity;
+      entries = held_in r.places.items r.octets.items;
+    } };
 
     ghost invariant = { λ r. IsRoom r.capacity r.begin r.end r.total r.places r.octets };
 }
 
 impl Room {
-    ghost use Rattle.std.specs.Prelude.{◌≡◌, ◌≤◌, ◌+◌, ◌++◌, ◌∷◌, [], length, drop, slice_get, IfOk};
+    ghost use Rattle.std.specs.Prelude.{◌≡◌, ◌≤◌, ◌+◌, ◌++◌, ◌∷◌, [], length, drop, slice_get};
+    ghost use Rattle.std.specs.Prelude.{IfOk};
     ghost use Rattle.std.specs.Option.{option_map};
     ghost use Rattle.entry_ring.specs.Held.{Held, sizes};
     ghost use Rattle.entry_ring.specs.Entries.{held_of};
 
-    /// No entry, and room for a capacity in octets.
+    /// No entry, and memory for a capacity in octets.
     pub fn new(alloc: Global, capacity: u32) -> Result<Room, AllocError>
         ensures { IfOk result (λ r. r ≡ record { capacity = capacity; entries = [] }) }
     {
@@ -99,7 +103,10 @@ impl Room {
 
     /// Drops the oldest entry, if there is one.
     pub fn discard(&mut self)
-        ensures { self.new ≡ record { capacity = self.old.capacity; entries = drop 1 self.old.entries } }
+        ensures { self.new ≡ record {
+          capacity = self.old.capacity;
+          entries = drop 1 self.old.entries;
+        } }
     {
         let Some(oldest) = self.places.pop_front() else {
             return;

@@ -43,7 +43,7 @@ abbrev pub opers_single : Model → Single → ℕ
 opers_single c (writes n v) = opers_at c (node_of c n).role
 opers_single c _ = 0
 
--- a's Oper, which is one of so many
+-- a's Oper, which is one of that many
 abbrev pub IsOper : Model → ℕ → ℕ → Deed → Type 0
 IsOper c a n d = (k : ℕ) × (v : Value) × (d ≡ called a k operate v) × (one_if (is_enhanced c k) ≤ n)
 

@@ -1,4 +1,4 @@
--- Whether an association is open, and how many replies wait for it, by the steps that name it (that an association has room for 16
+-- Whether an association is open, and how many replies wait for it, by the steps that name it (that an association has capacity for 16
 -- replies is this profile's own).
 use Rattle.std.specs.Prelude.{◌≡◌, ◌≤◌, ◌+◌, ◌-◌, ℕ, suc, Bool, true, false, ◌==◌, nat_le, [], ◌∷◌, Option, None, Some, is_some, if◌then◌else◌}
 use Rattle.sv_base.specs.declared.numbers.AssocNo.{AssocNo}
@@ -12,7 +12,7 @@ use Rattle.bay_model.specs.Answers.{Turn, History, points}
 use Rattle.bay_model.specs.Acceptance.{Fault, QueueFull, fault, IsHistory}
 use Rattle.history_laws.specs.Opers.{opers_by, AreApart}
 
--- association a is open behind a step, where it was or wasn't before
+-- association a is open after a step, where it was or wasn't before
 abbrev pub open_behind : ℕ → Step → Bool → Bool
 open_behind a (steps.Open e size writer owner) was = if e.0 == a then true else was
 open_behind a (steps.Lost e) was = if e.0 == a then false else was
@@ -35,7 +35,7 @@ abbrev pub waits : ℕ → History → ℕ
 waits a [] = 0
 waits a (t ∷ h) = waits_behind a t.step (waits a h)
 
--- How many Opers of controls under enhanced security it wrote since its last `Open`: so many more can wait at most.
+-- How many Opers of controls under enhanced security it wrote since its last `Open`: that many more can wait at most.
 abbrev pub opers_behind : Model → ℕ → Step → ℕ → ℕ
 opers_behind c a (steps.Open e size writer owner) n = if e.0 == a then 0 else n
 opers_behind c a (steps.Ask e r) n = if e.0 == a then n + opers_by c (steps.Ask e r) else n
@@ -67,7 +67,7 @@ IsInOrder opened (steps.Write e b comp v) = opened e.0 ≡ true
 IsInOrder opened (steps.Lost e) = opened e.0 ≡ true
 IsInOrder opened _ = Unit {0}
 
--- the fault of a step in order, where so many replies wait for the association that it names
+-- the fault of a step in order, where n replies wait for the association that it names
 abbrev pub own_fault : Step → (ℕ → ℕ) → Option Fault
 own_fault (steps.Ask e r) n = if nat_le 16 (n e.0) then Some (QueueFull e.0) else None
 own_fault _ n = None

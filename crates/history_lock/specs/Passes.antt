@@ -12,7 +12,7 @@ use Rattle.history_lock.specs.declared.fault.TurnFault.{TurnFault}
 use Rattle.history_lock.specs.declared.fault.TurnFault.TheVariants as faults
 use Rattle.bay_histories.specs.Histories.{IsEarlier, turn_of, by, answers_of, places_of, IsLegal, IsRefused}
 
--- a history: of this configuration, and of so many actors
+-- a history: of this configuration, and of n actors
 pub record Site : Type 0 where
   pub table : TableId
   pub actors : ℕ
@@ -116,7 +116,7 @@ ToldGrew rules p result q = MatchResult result (λ r. told rules q ≡ r.0 ∷ t
 abbrev pub PlacedGrew : Known → Result (Answer × ℕ) TurnFault → Known → Type 0
 PlacedGrew p result q = MatchResult result (λ r. placed q ≡ r.1 ∷ placed p) (λ _. placed q ≡ placed p)
 
--- a turn with a step that needs no memory is not refused for want of it
+-- a turn with a step that needs no memory is not refused as out of memory
 abbrev pub IsLeanTurn : Step → Result (Answer × ℕ) TurnFault → Type 0
 IsLeanTurn step (Err (faults.Step stepfaults.Memory)) = is_lean step ≡ false
 IsLeanTurn step _ = Unit {0}

@@ -1,4 +1,4 @@
--- What each step tells: of the step, the seat before, the number found and the seat after. The machine stands for a history as its own definitions have it.
+-- What each step says: of the step, the seat before, the number found and the seat after. The machine stands for a history as its own definitions have it.
 use Rattle.std.specs.Prelude.{ℕ, ◌≡◌, ◌≢◌, ◌+◌, ◌-◌, ◌<◌, ◌≤◌, ◌^◌, ◌⊎◌, List, [], ◌∷◌, ◌++◌, length, Option, Some, None, cond, nat_lt}
 use Rattle.atomic_table.specs.Table.{Me, Step, rest}
 use Rattle.bay_model.specs.Answers.{Turn, History}

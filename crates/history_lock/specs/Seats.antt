@@ -20,7 +20,7 @@ abbrev pub config_or : Option Config → Config
 config_or None = bare
 config_or (Some c) = c
 
--- the ranges behind the first
+-- the ranges after the first
 abbrev pub others_of : List (ℕ × ℕ) → List (ℕ × ℕ)
 others_of [] = []
 others_of (r ∷ rs) = rs

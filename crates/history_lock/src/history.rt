@@ -1,12 +1,15 @@
 //! A state machine behind a lock, the history of its accepted steps, and the right to make them.
 
-ghost use Rattle.std.specs.Prelude.{◌≡◌, ◌-◌, ◌+◌, ◌<◌, ◌≤◌, List, ◌∷◌, [], ◌++◌, length, IfOk, ℕ, cond, nat_lt, true};
+ghost use Rattle.std.specs.Prelude.{◌≡◌, ◌-◌, ◌+◌, ◌<◌, ◌≤◌, List, ◌∷◌, [], ◌++◌, length, IfOk, ℕ};
+ghost use Rattle.std.specs.Prelude.{cond, nat_lt, true};
 ghost use Rattle.object_model.specs.Fits.{fits as fits_in};
 ghost use Rattle.bay_model.specs.Answers.{History as TheHistory};
 ghost use Rattle.bay_histories.specs.Histories.{IsEarlier, by, IsLegal, IsShuffle};
 ghost use Rattle.history_lock.specs.Rule.{whole};
-ghost use Rattle.history_lock.specs.Passes.{Known, IsSamePass, Joined, Became, AreOfOne, first_of, kept_of, new_of};
-ghost use Rattle.history_lock.specs.Passes.{OwnGrew, ToldGrew, PlacedGrew, Turned, IsLeanTurn, IsProcessTurn};
+ghost use Rattle.history_lock.specs.Passes.{Known, IsSamePass, Joined, Became, AreOfOne, first_of};
+ghost use Rattle.history_lock.specs.Passes.{kept_of, new_of};
+ghost use Rattle.history_lock.specs.Passes.{OwnGrew, ToldGrew, PlacedGrew, Turned, IsLeanTurn};
+ghost use Rattle.history_lock.specs.Passes.{IsProcessTurn};
 
 use crate::fault::TurnFault;
 use crate::lock::{Lock, Seat};
@@ -38,12 +41,16 @@ impl<M: StateMachine> std::marker::Model for History<M> {
 
     ghost coded = { Prim.hlevel (codes, row_code, fields_code) };
 
-    ghost view = { λ h. record { table = h.lock.table.shared.table_id; actors = h.about.actors; config = h.about.model } };
+    ghost view = { λ h. record {
+      table = h.lock.table.shared.table_id;
+      actors = h.about.actors;
+      config = h.about.model;
+    } };
 
     ghost invariant = { λ h. h.lock.table.shared.key ≡ h.about };
 }
 
-/// The right to make the steps of some actors, and so many turns. Contracts see its numbers, its turns left, and the history as
+/// The right to make the steps of some actors, and n turns. Contracts see its numbers, its turns left, and the history as
 /// far as it has seen it, the newest step first.
 #[derive(Drop)]
 pub struct Pass<M: StateMachine> {
@@ -68,8 +75,10 @@ impl<M: StateMachine> std::marker::Model for Pass<M> {
 
     ghost view = { λ p. known p.seat.table_id p.seat.me p.first p.count p.left };
 
-    ghost invariant = { λ p. (0 < p.count) × (p.first + p.count < 2 ^ 32) × (p.seen ≡ length p.seat.me.0.seen)
-        × (p.seat.me ≡ at_rest (config_or p.seat.me.0.config) p.first p.count (others_of p.seat.me.0.ranges) p.left p.seat.me.0.seen) };
+    ghost invariant = { λ p. (0 < p.count) × (p.first + p.count < 2 ^ 32)
+        × (p.seen ≡ length p.seat.me.0.seen)
+        × (p.seat.me ≡ at_rest (config_or p.seat.me.0.config) p.first p.count
+        (others_of p.seat.me.0.ranges) p.left p.seat.me.0.seen) };
 }
 
 impl<M: StateMachine> Pass<M> {
@@ -97,11 +106,12 @@ impl<M: StateMachine> Pass<M> {
 
 impl<M: StateMachine> History<M> {
     /// A machine that has made no step, behind a lock. The pass has the numbers of all actors, from 0, and 2^62 turns. Fails for
-    /// want of memory alone; the lock takes a copy of the machine's model.
+    /// out of memory alone; the lock takes a copy of the machine's model.
     pub fn new(alloc: Global, machine: M, actors: u32) -> Result<(History<M>, Pass<M>), AllocError>
         requires actors { 0 < actors }
         requires machine { M.stands machine (M.config machine) [] }
-        ensures history { IfOk result (λ r. (r.0.actors ≡ actors) × (r.0.config ≡ M.config machine)) }
+        ensures history { IfOk result (λ r. (r.0.actors ≡ actors)
+            × (r.0.config ≡ M.config machine)) }
         ensures pass { IfOk result (λ r. r.1 ≡ first_of r.0) }
     {
         let about = match about_of(alloc, &machine, actors) {
@@ -120,7 +130,7 @@ impl<M: StateMachine> History<M> {
         }
     }
 
-    /// Hands the last `numbers` of the pass's range, and so many turns, to a new pass that has seen the same. The pass keeps
+    /// Hands the last `numbers` of the pass's range, and n turns, to a new pass that has seen the same. The pass keeps
     /// one number at least. It takes no memory.
     pub fn split(&self, pass: &mut Pass<M>, numbers: u32, turns: u64) -> Pass<M>
         requires pass { pass.old.table ≡ self.now.table }
@@ -210,7 +220,7 @@ impl<M: StateMachine> History<M> {
     }
 
     /// Compares two passes: one of them has seen what the other has, and then steps of others alone, whatever turns both have made
-    /// since they were split. It changes neither, makes no turn and takes no memory: a proof calls it for what it tells.
+    /// since they were split. It changes neither, makes no turn and takes no memory: a proof calls it for what it says.
     pub fn compare(&self, pass: &mut Pass<M>, other: &mut Pass<M>)
         requires { (pass.old.table ≡ self.now.table) × (other.old.table ≡ self.now.table) }
         ensures same { (pass.new ≡ pass.old) × (other.new ≡ other.old) }
@@ -223,9 +233,12 @@ impl<M: StateMachine> History<M> {
     /// How many steps were accepted. Where passes of all numbers became this one, it has seen them all.
     pub fn close(self, pass: Pass<M>) -> u64
         requires { pass.table ≡ self.table }
-        ensures seen { (log : TheHistory) × (result ≡ length log) × IsEarlier pass.seen log × IsLegal M.rules self.config log }
-        ensures whole { (parts : ℕ → Known) → ((k : ℕ) → k < self.actors → Became M.rules k (parts k) pass)
-            → (result ≡ length pass.seen) × IsShuffle self.actors (λ k. by k (parts k).seen) pass.seen }
+        ensures seen { (log : TheHistory) × (result ≡ length log) × IsEarlier pass.seen log
+            × IsLegal M.rules self.config log }
+        ensures whole { (parts : ℕ → Known) → ((k : ℕ) → k < self.actors
+            → Became M.rules k (parts k) pass)
+            → (result ≡ length pass.seen)
+            × IsShuffle self.actors (λ k. by k (parts k).seen) pass.seen }
     {
         let History {
             lock,
@@ -265,7 +278,8 @@ fn begun<M: StateMachine>(
 ) -> (History<M>, Pass<M>)
     requires actors { (0 < actors) × (about.actors ≡ actors) }
     requires key { lock.table.shared.key ≡ about }
-    requires seat { (seat.table_id ≡ lock.table.shared.table_id) × (seat.me ≡ (whole actors about.model, [])) }
+    requires seat { (seat.table_id ≡ lock.table.shared.table_id)
+        × (seat.me ≡ (whole actors about.model, [])) }
     ensures history { (result.0.actors ≡ actors) × (result.0.config ≡ about.model) }
     ensures pass { result.1 ≡ first_of result.0 }
 {

@@ -1,6 +1,7 @@
 //! A state machine behind a ticket lock, one step of the lock after another.
 
-ghost use Rattle.std.specs.Prelude.{◌≡◌, ◌+◌, ◌^◌, ◌<◌, ◌≤◌, List, ◌∷◌, [], length, Some, IfOk, ℕ, true};
+ghost use Rattle.std.specs.Prelude.{◌≡◌, ◌+◌, ◌^◌, ◌<◌, ◌≤◌, List, ◌∷◌, [], length, Some, IfOk, ℕ};
+ghost use Rattle.std.specs.Prelude.{true};
 ghost use Rattle.sv_base.specs.declared.config.Config.{Config};
 ghost use Rattle.object_model.specs.Fits.{fits as fits_in};
 ghost use Rattle.bay_model.specs.Answers.{History};
@@ -8,7 +9,8 @@ ghost use Rattle.bay_histories.specs.Turns.{KeepsLean, KeepsProcess};
 ghost use Rattle.bay_histories.specs.Histories.{IsEarlier, by, turn_of, IsLegal};
 ghost use Rattle.history_lock.specs.Views.{mine, busy};
 ghost use Rattle.history_lock.specs.Rule.{whole};
-ghost use Rattle.history_lock.specs.Plays.{Got, drawn, extended, resting, kept_part, cut_part, joined, settled, Agree, Beside};
+ghost use Rattle.history_lock.specs.Plays.{Got, drawn, extended, resting, kept_part, cut_part};
+ghost use Rattle.history_lock.specs.Plays.{joined, settled, Agree, Beside};
 ghost use Rattle.history_lock.specs.Seats.{Took, config_or, step_result};
 ghost use Rattle.history_lock.specs.declared.view.Phase.TheVariants.{Idle, Drawn, Busy, Added};
 
@@ -40,7 +42,8 @@ impl<M: StateMachine> Lock<M> {
         about: &About,
     ) -> Result<(Lock<M>, Seat<M>), AllocError>
         requires { M.stands machine about.now.model [] }
-        ensures { IfOk result (λ r. (r.0.table.shared.key ≡ about.now) × (r.1.table_id ≡ r.0.table.shared.table_id)
+        ensures { IfOk result (λ r. (r.0.table.shared.key ≡ about.now)
+            × (r.1.table_id ≡ r.0.table.shared.table_id)
             × (r.1.me ≡ (whole about.now.actors about.now.model, []))) }
     {
         let mut slots = match Vec::with_capacity(alloc, 1) {
@@ -63,9 +66,11 @@ impl<M: StateMachine> Lock<M> {
     /// A new seat gets the last numbers of the first range, and turns.
     fn cut<N: Portion>(&self, seat: &mut Seat<M>, _numbers: u64, _turns: u64) -> Seat<M>
         requires table { seat.old.table_id ≡ self.now.table.shared.table_id }
-        requires numbers { (low : ℕ) × (count : ℕ) × (others : List (ℕ × ℕ)) × (seat.old.me.0.ranges ≡ (low, count) ∷ others) × (N.numbers ≤ count) }
+        requires numbers { (low : ℕ) × (count : ℕ) × (others : List (ℕ × ℕ))
+            × (seat.old.me.0.ranges ≡ (low, count) ∷ others) × (N.numbers ≤ count) }
         requires turns { N.turns ≤ seat.old.me.0.left }
-        ensures table { (seat.new.table_id ≡ seat.old.table_id) × (result.table_id ≡ seat.old.table_id) }
+        ensures table { (seat.new.table_id ≡ seat.old.table_id)
+            × (result.table_id ≡ seat.old.table_id) }
         ensures kept { seat.new.me ≡ (kept_part N.numbers N.turns seat.old.me.0, seat.old.me.1) }
         ensures new { result.me ≡ (cut_part N.numbers N.turns seat.old.me.0, []) }
     {
@@ -74,9 +79,11 @@ impl<M: StateMachine> Lock<M> {
 
     pub(crate) fn split(&self, seat: &mut Seat<M>, numbers: u64, turns: u64) -> Seat<M>
         requires table { seat.old.table_id ≡ self.now.table.shared.table_id }
-        requires numbers { (low : ℕ) × (count : ℕ) × (others : List (ℕ × ℕ)) × (seat.old.me.0.ranges ≡ (low, count) ∷ others) × (numbers ≤ count) }
+        requires numbers { (low : ℕ) × (count : ℕ) × (others : List (ℕ × ℕ))
+            × (seat.old.me.0.ranges ≡ (low, count) ∷ others) × (numbers ≤ count) }
         requires turns { turns ≤ seat.old.me.0.left }
-        ensures table { (seat.new.table_id ≡ seat.old.table_id) × (result.table_id ≡ seat.old.table_id) }
+        ensures table { (seat.new.table_id ≡ seat.old.table_id)
+            × (result.table_id ≡ seat.old.table_id) }
         ensures kept { seat.new.me ≡ (kept_part numbers turns seat.old.me.0, seat.old.me.1) }
         ensures new { result.me ≡ (cut_part numbers turns seat.old.me.0, []) }
     {
@@ -85,8 +92,10 @@ impl<M: StateMachine> Lock<M> {
 
     /// Takes in another seat, and compares what the two had seen.
     pub(crate) fn join(&self, seat: &mut Seat<M>, other: Seat<M>)
-        requires table { (seat.old.table_id ≡ self.now.table.shared.table_id) × (other.table_id ≡ self.now.table.shared.table_id) }
-        requires idle { (seat.old.me.0.phase ≡ Idle) × (seat.old.me.1 ≡ []) × (seat.old.me.0.aside ≡ []) }
+        requires table { (seat.old.table_id ≡ self.now.table.shared.table_id)
+            × (other.table_id ≡ self.now.table.shared.table_id) }
+        requires idle { (seat.old.me.0.phase ≡ Idle) × (seat.old.me.1 ≡ [])
+            × (seat.old.me.0.aside ≡ []) }
         requires other { (other.me.0.phase ≡ Idle) × (other.me.1 ≡ []) }
         ensures table { seat.new.table_id ≡ seat.old.table_id }
         ensures seat { seat.new.me ≡ (settled (joined seat.old.me.0 other.me.0), []) }
@@ -99,10 +108,12 @@ impl<M: StateMachine> Lock<M> {
 
     /// Holds what a seat has seen beside what another has, and leaves both as they are.
     pub(crate) fn hear(&self, seat: &mut Seat<M>, other: &mut Seat<M>)
-        requires table { (seat.old.table_id ≡ self.now.table.shared.table_id) × (other.old.table_id ≡ self.now.table.shared.table_id) }
+        requires table { (seat.old.table_id ≡ self.now.table.shared.table_id)
+            × (other.old.table_id ≡ self.now.table.shared.table_id) }
         requires idle { seat.old.me.0.phase ≡ Idle }
         requires alone { (seat.old.me.0.aside ≡ []) × (seat.old.me.0.told ≡ []) }
-        ensures table { (seat.new.table_id ≡ seat.old.table_id) × (other.new.table_id ≡ other.old.table_id) }
+        ensures table { (seat.new.table_id ≡ seat.old.table_id)
+            × (other.new.table_id ≡ other.old.table_id) }
         ensures same { (seat.new.me ≡ seat.old.me) × (other.new.me ≡ other.old.me) }
         ensures beside { Beside seat.old.me.0 other.old.me.0.seen }
     {
@@ -115,8 +126,10 @@ impl<M: StateMachine> Lock<M> {
     pub(crate) fn close(self, seat: Seat<M>) -> u64
         requires table { seat.table_id ≡ self.table.shared.table_id }
         ensures { (log : History) × (result ≡ length log) × IsEarlier seat.me.0.seen log
-            × (((k : ℕ) → k < self.table.shared.key.actors → 0 < mine k seat.me.0) → seat.me.0.seen ≡ log)
-            × ((k : ℕ) → self.table.shared.key.actors ≤ k → by k log ≡ []) × IsLegal M.rules self.table.shared.key.model log }
+            × (((k : ℕ) → k < self.table.shared.key.actors → 0 < mine k seat.me.0)
+            → seat.me.0.seen ≡ log)
+            × ((k : ℕ) → self.table.shared.key.actors ≤ k → by k log ≡ [])
+            × IsLegal M.rules self.table.shared.key.model log }
     {
         let Lock { table } = self;
         let mut closed = table.close_with(seat);
@@ -165,9 +178,11 @@ impl<M: StateMachine> Lock<M> {
         requires table { seat.old.table_id ≡ self.now.table.shared.table_id }
         requires turn { (t : ℕ) × (seat.old.me.0.phase ≡ Busy t) }
         requires mine { 0 < mine E.turn.actor seat.old.me.0 }
-        requires legal { (config : Config) × (seat.old.me.0.config ≡ Some config) × IsLegal M.rules config (E.turn ∷ seat.old.me.0.seen) }
+        requires legal { (config : Config) × (seat.old.me.0.config ≡ Some config)
+            × IsLegal M.rules config (E.turn ∷ seat.old.me.0.seen) }
         ensures table { seat.new.table_id ≡ seat.old.table_id }
-        ensures seat { (t : ℕ) → seat.old.me.0.phase ≡ Busy t → seat.new.me ≡ (extended seat.old.me.0 t E.turn, seat.old.me.1) }
+        ensures seat { (t : ℕ) → seat.old.me.0.phase ≡ Busy t
+            → seat.new.me ≡ (extended seat.old.me.0 t E.turn, seat.old.me.1) }
         ensures place { result ≡ length seat.old.me.0.seen }
     {
         self.table.shared.fetch_add::<Append<E>>(seat, 2, 1)
@@ -177,7 +192,8 @@ impl<M: StateMachine> Lock<M> {
     fn pass_on(&self, seat: &mut Seat<M>)
         requires table { seat.old.table_id ≡ self.now.table.shared.table_id }
         requires busy { busy seat.old.me.0 ≡ 1 }
-        requires machine { (machine : M) × (config : Config) × (seat.old.me.1 ≡ (0, Some machine) ∷ []) × (seat.old.me.0.config ≡ Some config)
+        requires machine { (machine : M) × (config : Config)
+            × (seat.old.me.1 ≡ (0, Some machine) ∷ []) × (seat.old.me.0.config ≡ Some config)
             × M.stands machine config seat.old.me.0.seen }
         ensures table { seat.new.table_id ≡ seat.old.table_id }
         ensures seat { seat.new.me ≡ (resting seat.old.me.0, []) }
@@ -217,7 +233,8 @@ impl<M: StateMachine> Lock<M> {
         ensures table { seat.new.table_id ≡ seat.old.table_id }
         ensures lean { KeepsLean step.now (step_result result) }
         ensures process { KeepsProcess step.now (step_result result) }
-        ensures turn { Took M.rules (config_or seat.old.me.0.config) seat.old.me (turn_of moment actor.0 step.now) result seat.new.me }
+        ensures turn { Took M.rules (config_or seat.old.me.0.config) seat.old.me
+            (turn_of moment actor.0 step.now) result seat.new.me }
     {
         let ticket = self.draw(seat);
         self.wait_turn(rt, seat, ticket);

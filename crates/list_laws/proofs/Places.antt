@@ -87,7 +87,7 @@ same_at f g [] (b ∷ ys) n x d e m h is = absurd (omega (arith, ap length m))
 same_at f g (a ∷ xs) (b ∷ ys) zero x d e m h is = ap f is ∙ heads (f a) (g b) (map f xs) (map g ys) m
 same_at f g (a ∷ xs) (b ∷ ys) (suc n) x d e m h is = same_at f g xs ys n x d e (tails (f a) (g b) (map f xs) (map g ys) m) (omega (arith, h)) is
 
--- behind a beginning that is dropped, and in front of an end
+-- after a beginning that is dropped, and in front of an end
 pub slice_get-drop : {X : Type 0} (f j : ℕ) (xs : List X) → slice_get (drop f xs) j ≡ slice_get xs (f + j)
 slice_get-drop zero j xs = let same : j ≡ 0 + j = omega arith in ap (slice_get xs) same
 slice_get-drop (suc f) j [] = refl

@@ -1,4 +1,4 @@
--- Truth values: what an "or", an "and" and a "not" tell of their parts.
+-- Truth values: what an "or", an "and" and a "not" say of their parts.
 use Rattle.std.proofs.Common.{◌≡◌, Bool, true, false, not, ◌&&◌, ◌||◌, refl, sym, ◌∙◌, true≢false}
 
 -- ---- one of two

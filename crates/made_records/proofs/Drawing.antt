@@ -12,7 +12,7 @@ pub after-next : (n : ℕ) (d : Draw) → draw_after n (next_draw d) ≡ draw_af
 after-next zero d = refl
 after-next (suc n) d = ap next_draw (after-next n d)
 
--- one line more stands behind the others
+-- one line more stands after the others
 lines-more : (n : ℕ) (d : Draw) → lines_from (suc n) d ≡ lines_from n d ++ line_by (draw_after n d) ∷ []
 lines-more zero d = refl
 lines-more (suc n) d = ap (λ l. line_by d ∷ l) (lines-more n (next_draw d) ∙ ap (λ e. lines_from n (next_draw d) ++ line_by e ∷ []) (after-next n d))
@@ -20,7 +20,7 @@ lines-more (suc n) d = ap (λ l. line_by d ∷ l) (lines-more n (next_draw d) �
 text-more : (n : ℕ) (d : Draw) → lines_text (suc n) d ≡ lines_text n d ++ line_text (line_by (draw_after n d))
 text-more n d = ap (flat_map line_text) (lines-more n d) ∙ (flat_map-append line_text (lines_from n d) (line_by (draw_after n d) ∷ []) ∙ ap (λ l. lines_text n d ++ l) (append-nil (line_text (line_by (draw_after n d)))))
 
--- the lines so far are written behind what was there, and the drawing is behind them
+-- the lines so far are written after what was there, and the drawing is after them
 pub record Pushed (was out : List ℕ) (from now : Draw) (n : ℕ) : Type 0 where
   pub text : out ≡ was ++ lines_text n from
   pub draw : now ≡ draw_after n from

@@ -11,7 +11,7 @@ use Rattle.made_records.specs.Texts.{line_text, lines_text, ending}
 use Rattle.made_records.specs.Left.{octets_left}
 use Rattle.made_records.proofs.Drawing.{after-next}
 
--- the lines of a piece, and those behind it
+-- the lines of a piece, and those after it
 lines-split : (n k m : ℕ) (d : Draw) → n ≡ k + m → lines_text n d ≡ lines_text k d ++ lines_text m (draw_after k d)
 lines-split n zero m d is = let same : n ≡ m = omega (arith, is) in rw same refl
 lines-split zero (suc k) m d is = absurd (omega (arith, is))

@@ -31,12 +31,12 @@ line_of x moment = if nat_lt (choice x) 4 then Power (rest x % 1000)
 abbrev pub line_by : Draw → MadeLine
 line_by d = line_of (next_number d.number) d.moment
 
--- so many lines, in order
+-- n lines, in order
 abbrev pub lines_from : ℕ → Draw → List MadeLine
 lines_from zero d = []
 lines_from (suc n) d = line_by d ∷ lines_from n (next_draw d)
 
--- where the drawing is behind so many
+-- where the drawing is after that many
 abbrev pub draw_after : ℕ → Draw → Draw
 draw_after zero d = d
 draw_after (suc n) d = next_draw (draw_after n d)

@@ -13,7 +13,7 @@ line_text (Indication false) = codes "set BAY1/GGIO1$ST$Ind1$stVal F\n"
 line_text (At moment) = codes "at " ++ (decimal moment ++ codes "\n")
 line_text Take = codes "take 1\n"
 
--- so many lines, in order
+-- n lines, in order
 abbrev pub lines_text : ℕ → Draw → List ℕ
 lines_text n d = flat_map line_text (lines_from n d)
 
@@ -24,6 +24,6 @@ opening = codes "record 1\nconfig 1\nserver Demo Bay 1\nld BAY1\nln LLN0\nset Ev
 abbrev pub ending : List ℕ
 ending = codes "end\n"
 
--- the record that a seed makes with so many drawn lines
+-- the record that a seed makes with n drawn lines
 abbrev pub made_record : ℕ → ℕ → List ℕ
 made_record seed count = opening ++ (lines_text count (first_draw seed) ++ ending)

@@ -21,7 +21,8 @@ pub enum MadeLine {
 
 /// Adds words, a number and a newline.
 fn push_numbered(out: &mut Vec<u8>, words: &[u8], n: u64) -> Result<(), AllocError>
-    ensures { OnOk result (out.new.items ≡ out.old.items ++ (words.now ++ (decimal n ++ codes "\n"))) }
+    ensures { OnOk result (out.new.items ≡ out.old.items
+        ++ (words.now ++ (decimal n ++ codes "\n"))) }
 {
     out.extend_from_slice(words)?;
     out.extend_from_slice(Buffer::new().format(n).as_bytes())?;

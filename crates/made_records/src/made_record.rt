@@ -1,6 +1,7 @@
 //! A made record, a piece at a time.
 
-ghost use Rattle.std.specs.Prelude.{◌≡◌, ◌≢◌, ◌↔◌, ◌≤◌, ◌<◌, ◌+◌, ◌*◌, ◌^◌, ◌++◌, [], length, IsTrue, IfOk, OnOk, OnErr};
+ghost use Rattle.std.specs.Prelude.{◌≡◌, ◌≢◌, ◌↔◌, ◌≤◌, ◌<◌, ◌+◌, ◌*◌, ◌^◌, ◌++◌, [], length};
+ghost use Rattle.std.specs.Prelude.{IsTrue, IfOk, OnOk, OnErr};
 ghost use Rattle.made_records.specs.Made.{draw_after};
 ghost use Rattle.made_records.specs.Texts.{lines_text, made_record};
 
@@ -38,7 +39,7 @@ open 1 direct
 write 1 BAY1/LLN0$BR$brcbEv01 RptEna T
 ";
 
-/// Adds so many drawn lines, and answers how the drawing goes on.
+/// Adds n drawn lines, and answers how the drawing goes on.
 fn push_lines(out: &mut Vec<u8>, from: Draw, count: u32) -> Result<Draw, AllocError>
     requires { from.moment + 499 * count < 2 ^ 60 }
     ensures text { OnOk result (out.new.items ≡ out.old.items ++ lines_text count from) }
@@ -81,7 +82,7 @@ impl Model for MadeRecord {
 }
 
 impl MadeRecord {
-    /// The record of a seed with so many drawn lines, whole.
+    /// The record of a seed with n drawn lines, whole.
     pub fn new(seed: u64, count: u32) -> Self
         ensures { result ≡ made_record seed count }
     {

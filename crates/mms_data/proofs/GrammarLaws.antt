@@ -30,13 +30,13 @@ use Rattle.mms_data.proofs.DataLaws.{data_at-outside, data_at-deep, data_at-stru
 
 -- ---- plain values
 
--- a plain element tells its value
+-- a plain element says its value
 abbrev PlainTells : Element → Result Seen DataFault → Type 0
 PlainTells e (Ok (plain p)) = IsPlain p e
 PlainTells e (Ok (structure r)) = ⊥
 PlainTells e (Err f) = f ≡ Length
 
--- Each reader of content tells what it read, and its one fault.
+-- Each reader of content says what it read, and its one fault.
 abbrev Tells : {A : Type 0} → (A → Type 0) → Result A DataFault → Type 0
 Tells P (Ok x) = P x
 Tells P (Err f) = f ≡ Length

@@ -60,12 +60,12 @@ abbrev mutual
 abbrev pub IsWithin : ℕ → Element → Seen → Type 0
 IsWithin n e s = IsData s e × (depth_seen s ≤ n)
 
--- Behind parts that are values the next is no whole element, or is refused itself.
+-- After parts that are values the next is no whole element, or is refused itself.
 abbrev pub IsRefusedRow : (Element → DataFault → Type 0) → ℕ → List ℕ → DataFault → Type 0
 IsRefusedRow IsRefusedPart n content f = (es : List Element) × (r : Row) × (front rest : List ℕ) × IsRow front es × AreData r es × (depth_row r ≤ n) × (content ≡ front ++ rest) × (0 < length rest)
     × (((f ≡ Length) × (g : BerFault) × IsRefused rest g) ⊎ ((e : Element) × (after : List ℕ) × Begins rest e after × IsRefusedPart e f))
 
--- How an element of at most so many levels is refused: its tag first, then its depth, then its content from the left.
+-- How an element of at most n levels is refused: its tag first, then its depth, then its content from the left.
 abbrev pub IsRefusedData : ℕ → Element → DataFault → Type 0
 IsRefusedData zero e f = ((is_context e.tag ≡ false) × (f ≡ Tag)) ⊎ ((is_context e.tag ≡ true) × (f ≡ Depth))
 IsRefusedData (suc n) e f = ((is_context e.tag ≡ false) × (f ≡ Tag)) ⊎ ((is_context e.tag ≡ true)

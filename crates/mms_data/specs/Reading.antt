@@ -12,7 +12,7 @@ use Rattle.mms_data.specs.declared.fault.DataFault.TheVariants.{Tag, Length, Dep
 use Rattle.mms_data.specs.Grammar.{is_context}
 use Rattle.mms_data.specs.declared.tags.TheConstants.{BINARY_TIME, BIT_STRING, BOOLEAN, INTEGER, OCTET_STRING, STRUCTURE, UNSIGNED, UTC_TIME, VISIBLE_STRING}
 
--- of want of memory nothing is said
+-- of out of memory nothing is said
 abbrev pub fault_of : DataFault → Option DataFault
 fault_of Tag = Some Tag
 fault_of Length = Some Length

@@ -5,7 +5,8 @@ ghost use Rattle.ber_grammar.specs.Octets.{big_endian};
 ghost use Rattle.ber_grammar.specs.Reader.{Gives, GivesOrMemory};
 ghost use Rattle.ber_view.specs.View.{element};
 ghost use Rattle.sv_base.specs.Seen.{seen_of};
-ghost use Rattle.mms_data.specs.Reading.{fault_of, truth_at, bit_string_at, integer_at, unsigned_at, string_at, stamp_at, time_at, plain_at};
+ghost use Rattle.mms_data.specs.Reading.{fault_of, truth_at, bit_string_at, integer_at};
+ghost use Rattle.mms_data.specs.Reading.{unsigned_at, string_at, stamp_at, time_at, plain_at};
 
 use crate::fault::DataFault;
 use crate::tags;

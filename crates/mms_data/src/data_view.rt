@@ -21,7 +21,7 @@ use std::marker::Model;
 use sv_base::Value;
 
 /// One whole element that is Data, at most ten deep, with its content in place: what [`read_data`](crate::read_data)
-/// reads for another cause than want of memory.
+/// reads for another cause than out of memory.
 ///
 /// It is seen as the element and where its content lies.
 #[derive(Debug, Drop)]
@@ -131,10 +131,11 @@ fn checked_view<'a>(part: &Tlv<'a>) -> Result<DataView<'a>, DataFault>
 
 /// The element as Data (ISO 9506-2, Data), in place.
 ///
-/// Fails as [`read_data`](crate::read_data) fails on the element's octets, and never for want of memory: it takes none.
+/// Fails as [`read_data`](crate::read_data) fails on the element's octets, and never when out of memory: it takes none.
 pub fn view_data<'a>(part: &Tlv<'a>) -> Result<DataView<'a>, DataFault>
     // The element where it is Data, else the refusal that it earns.
-    ensures reads { Reads {Y = Spot} (λ d. d) result (IsViewed (spot part.now)) (IsRefusedData 10 (element part.now)) }
+    ensures reads { Reads {Y = Spot} (λ d. d) result (IsViewed (spot part.now))
+        (IsRefusedData 10 (element part.now)) }
     ensures exact { result ≡ view_at (spot part.now) }
 {
     holds_octets(part.content);

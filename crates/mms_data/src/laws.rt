@@ -17,26 +17,32 @@ ghost use Rattle.mms_data.specs.Writable.{Fits, SeenHasFractions, SeenIsOfTypes}
 /// What is written of a value spells it, whatever follows, so that it is read back as the same value. An element spells
 /// one value.
 pub fn data_is_read_back()
-    ensures whole { (v : Value) → HasNoOther v → depth v ≤ 10 → Fits v → SeenIsOfTypes (seen_of v) → IsSpelled (data_of v) (seen_of v) }
-    ensures followed { (v : Value) (rest : List ℕ) → HasNoOther v → depth v ≤ 10 → Fits v → SeenIsOfTypes (seen_of v)
+    ensures whole { (v : Value) → HasNoOther v → depth v ≤ 10 → Fits v → SeenIsOfTypes (seen_of v)
+        → IsSpelled (data_of v) (seen_of v) }
+    ensures followed { (v : Value) (rest : List ℕ) → HasNoOther v → depth v ≤ 10 → Fits v
+        → SeenIsOfTypes (seen_of v)
         → (e : Element) × Begins (data_of v ++ rest) e rest × IsWithin 10 e (seen_of v) }
-    ensures one_value { (e : Element) (s t : Seen) → IsBytes e.content → IsData s e → IsData t e → s ≡ t }
+    ensures one_value { (e : Element) (s t : Seen) → IsBytes e.content → IsData s e
+        → IsData t e → s ≡ t }
 {}
 
 /// No spelling of a value is shorter than what is written.
 pub fn data_is_minimal()
-    ensures { (octets : List ℕ) (e : Element) (s : Seen) → IsBytes octets → Spells octets e → IsData s e → SeenHasNoOther s
+    ensures { (octets : List ℕ) (e : Element) (s : Seen) → IsBytes octets → Spells octets e
+        → IsData s e → SeenHasNoOther s
         → length (data_seen s) ≤ length octets }
 {}
 
 /// What is written of a type is one element, whatever follows.
 pub fn types_are_elements()
-    ensures { (t : TypeOf) (rest : List ℕ) → FitsType t → (e : Element) × Begins (type_of t ++ rest) e rest }
+    ensures { (t : TypeOf) (rest : List ℕ) → FitsType t
+        → (e : Element) × Begins (type_of t ++ rest) e rest }
 {}
 
 /// What comes to at most 4294967295 octets can be written.
 pub fn short_ones_fit()
-    ensures values { (v : Value) → length (data_of v) < 2 ^ 32 → SeenHasFractions (seen_of v) → Fits v }
+    ensures values { (v : Value) → length (data_of v) < 2 ^ 32
+        → SeenHasFractions (seen_of v) → Fits v }
     ensures types { (t : TypeOf) → length (type_of t) < 2 ^ 32 → FitsType t }
 {}
 

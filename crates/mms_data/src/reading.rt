@@ -55,7 +55,8 @@ fn struct_of(alloc: Global, depth: u8, content: &[u8]) -> Result<Value, DataFaul
 
 #[cycle(data)]
 fn parts_of(alloc: Global, depth: u8, content: &[u8]) -> Result<Vec<Value>, DataFault>
-    ensures { GivesOrMemory fault_of (λ v. map seen_of v.items) result (row_at (data_at depth) malformed content.now) }
+    ensures { GivesOrMemory fault_of (λ v. map seen_of v.items) result
+        (row_at (data_at depth) malformed content.now) }
 {
     let mut items = Vec::new(alloc);
     let mut rest = content;
@@ -92,10 +93,11 @@ fn read_one(alloc: Global, bytes: &[u8]) -> Result<Value, DataFault>
 ///
 /// Fails at the first octet at which no value goes on. `Tag` is of an input that is not one whole element, and of an
 /// element, a part too, outside the context class; then `Depth` of a value more than ten deep; then `Length` of a
-/// content that is not of its kind's form, and of a part that is no whole element. `Memory` is want of memory.
+/// content that is not of its kind's form, and of a part that is no whole element. `Memory` is out of memory.
 pub fn read_data(alloc: Global, bytes: &[u8]) -> Result<Value, DataFault>
     // A value where the input spells it, else the refusal that the input earns.
-    ensures reads { ReadsOrMemory fault_of seen_of result (IsSpelled bytes.now) (IsDataRefused bytes.now) }
+    ensures reads { ReadsOrMemory fault_of seen_of result (IsSpelled bytes.now)
+        (IsDataRefused bytes.now) }
     ensures exact { GivesOrMemory fault_of seen_of result (read_at bytes.now) }
 {
     read_one(alloc, bytes)

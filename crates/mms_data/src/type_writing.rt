@@ -2,14 +2,15 @@
 
 ghost use Rattle.std.specs.Prelude.{◌≡◌, ◌+◌, ◌≤◌, ◌<◌, ◌^◌, ◌++◌, length, take, min, OnOk, OnErr};
 ghost use Rattle.ber_write.specs.Minimal.{length_octets, octets_of};
-ghost use Rattle.mms_data.specs.TypeOctets.{at_most, type_of, part_content, part_octets, parts_octets, FitsType, FitsPart, FitsParts};
+ghost use Rattle.mms_data.specs.TypeOctets.{at_most, type_of, part_content, part_octets};
+ghost use Rattle.mms_data.specs.TypeOctets.{parts_octets, FitsType, FitsPart, FitsParts};
 
 use crate::tags;
 use ber_write::{int_len, length_of, put, put_head, put_int, put_uint, uint_len};
 use std::alloc::AllocError;
 use sv_base::{Part1, TypeOf};
 
-/// How many octets an element has whose tag is one octet and whose content has so many, and 4294967295 where there are
+/// How many octets an element has whose tag is one octet and whose content has that many, and 4294967295 where there are
 /// more.
 fn element_len(content: u32) -> u32
     ensures { result ≡ min (1 + (length (length_octets content) + content)) 4294967295 }

@@ -1,6 +1,7 @@
 //! Data, written.
 
-ghost use Rattle.std.specs.Prelude.{◌≡◌, ◌+◌, ◌<◌, ◌≤◌, ◌-◌, ◌*◌, ◌/◌, ◌%◌, ◌^◌, ◌∷◌, ◌++◌, [], length, take, min, OnOk, OnErr};
+ghost use Rattle.std.specs.Prelude.{◌≡◌, ◌+◌, ◌<◌, ◌≤◌, ◌-◌, ◌*◌, ◌/◌, ◌%◌, ◌^◌, ◌∷◌, ◌++◌, []};
+ghost use Rattle.std.specs.Prelude.{length, take, min, OnOk, OnErr};
 ghost use Rattle.std.specs.Int.{to_be_bytes, w16, w32};
 ghost use Rattle.ber_write.specs.Minimal.{CanBeTag};
 ghost use Rattle.sv_base.specs.Tree.{int as int_of, uint as uint_of, bits as bits_of};
@@ -60,7 +61,8 @@ pub fn stamp_octets(stamp: Stamp) -> [u8; 6]
 /// A UTC time (ISO 9506-2, UtcTime).
 pub fn time_octets(time: Utc) -> [u8; 8]
     requires { time.frac < 2 ^ 24 }
-    ensures { result ≡ to_be_bytes w32 time.secs ++ ((time.frac / 65536) ∷ (time.frac / 256 % 256) ∷ (time.frac % 256) ∷ time.quality ∷ []) }
+    ensures { result ≡ to_be_bytes w32 time.secs ++ ((time.frac / 65536) ∷ (time.frac / 256 % 256)
+        ∷ (time.frac % 256) ∷ time.quality ∷ []) }
 {
     let [a, b, c, d] = time.secs.to_be_bytes();
     let high = (time.frac / 65536) as u8;

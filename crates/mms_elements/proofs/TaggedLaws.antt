@@ -74,7 +74,7 @@ numbered_none tag p none n rest is = let a = numbered_again tag p n rest is in n
     nothing : (x : ℕ × Piece) → None ≡ Some x → ⊥
     nothing x e = cc
 
--- octets behind a number are octets
+-- octets after a number are octets
 pub numbered_bytes : (tag : ℕ) (content : List ℕ) (n : ℕ) (rest : List ℕ) → IsBytes content → IsNumbered tag content n rest → IsBytes rest
 numbered_bytes tag content n rest fits (e, b, is) = (Begins-bytes content e rest fits b).1
 

@@ -20,13 +20,13 @@ IsNumbered tag content n rest = (e : Element) × Begins content e rest × IsNumb
 unfoldable pub number_at : ℕ → Element → Option ℕ
 number_at tag e = if e.tag == tag then below_at (2 ^ 32) e.content else None
 
--- the first element of octets, and the octets behind it
+-- the first element of octets, and the octets after it
 abbrev pub behind : Piece → Element → List ℕ → Piece
 behind p e rest = record { octets = rest; block = p.block; place = p.place + (e.head + length e.content) }
 
 unfoldable pub first_in : Piece → Option (Spot × Piece)
 first_in p = and_then (kept (first_at p.octets)) (λ x. Some (spot_in p x.0, behind p x.0 x.1))
 
--- a number in front, and the octets behind it
+-- a number in front, and the octets after it
 unfoldable pub numbered_in : ℕ → Piece → Option (ℕ × Piece)
 numbered_in tag p = and_then (first_in p) (λ x. and_then (number_at tag x.0.element) (λ n. Some (n, x.1)))

@@ -5,9 +5,9 @@
 pub enum PduFault {
     /// The first octet begins no PDU (ISO 9506-2, MMSpdu) that is known here, as that of a cancel request.
     UnknownPdu,
-    /// Behind this invoke number stands a service (ISO 9506-2, ConfirmedServiceRequest) that is not known here.
+    /// After this invoke number stands a service (ISO 9506-2, ConfirmedServiceRequest) that is not known here.
     UnknownService(u32),
-    /// Behind this invoke number stand fields outside the grammar of the service, of the error or of the reject, or
+    /// After this invoke number stand fields outside the grammar of the service, of the error or of the reject, or
     /// values of another number than variables.
     Argument(u32),
     /// The octets are not one whole PDU, there is no invoke number, or the PDU does not belong where it came.

@@ -30,7 +30,7 @@ pub fn number_of(tag: u32, field: &Tlv<'_>) -> Option<u32>
     u32::try_from(number).ok()
 }
 
-/// The first element, and the octets behind it.
+/// The first element, and the octets after it.
 #[tactic(auto, unfolding(crate::specs::Tagged::first_in))]
 fn first_of(bytes: &[u8]) -> Option<(Tlv<'_>, &[u8])>
     ensures { option_map (λ x. (spot x.0, piece x.1)) result ≡ first_in (piece bytes.entry) }
@@ -38,7 +38,7 @@ fn first_of(bytes: &[u8]) -> Option<(Tlv<'_>, &[u8])>
     first(bytes).ok()
 }
 
-/// The number under this tag in front, and the octets behind it.
+/// The number under this tag in front, and the octets after it.
 #[tactic(auto, unfolding(crate::specs::Tagged::numbered_in))]
 pub fn numbered_of(tag: u32, bytes: &[u8]) -> Option<(u32, &[u8])>
     ensures { option_map (λ x. (x.0, piece x.1)) result ≡ numbered_in tag (piece bytes.entry) }

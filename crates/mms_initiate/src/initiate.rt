@@ -5,8 +5,10 @@ ghost use Rattle.ber_grammar.specs.Place.{elements};
 ghost use Rattle.ber_grammar.specs.Reader.{Gives, Reads};
 ghost use Rattle.ber_view.specs.View.{element};
 ghost use Rattle.mms_initiate.specs.Initiate.{IsAccepted, IsInitiateRefused};
-ghost use Rattle.mms_initiate.specs.InitiateReading.{are_details, detail_at, nesting_at, calls_at, fields_at, proposal_at, judged, initiate_at};
-ghost use Rattle.mms_elements.specs.declared.tags.TheConstants.{INITIATE_REQUEST, INITIATE_RESPONSE};
+ghost use Rattle.mms_initiate.specs.InitiateReading.{are_details, detail_at, nesting_at, calls_at};
+ghost use Rattle.mms_initiate.specs.InitiateReading.{fields_at, proposal_at, judged, initiate_at};
+ghost use Rattle.mms_elements.specs.declared.tags.TheConstants.{INITIATE_REQUEST};
+ghost use Rattle.mms_elements.specs.declared.tags.TheConstants.{INITIATE_RESPONSE};
 
 use ber_view::{Elements, Tlv, parts, whole};
 use mms_elements::{PduFault, number_of, tags};
@@ -150,7 +152,8 @@ fn read_tagged(tag: u32, bytes: &[u8]) -> Result<Initiate, PduFault>
 /// this form.
 pub fn read_initiate(bytes: &[u8]) -> Result<Initiate, PduFault>
     // A proposal where the input spells it, else the refusal that the input earns.
-    ensures reads { Reads (λ x. x) result (IsAccepted INITIATE_REQUEST bytes.now) (IsInitiateRefused INITIATE_REQUEST bytes.now) }
+    ensures reads { Reads (λ x. x) result (IsAccepted INITIATE_REQUEST bytes.now)
+        (IsInitiateRefused INITIATE_REQUEST bytes.now) }
     ensures exact { Gives (λ x. x) result (initiate_at INITIATE_REQUEST bytes.now) }
 {
     read_tagged(tags::INITIATE_REQUEST, bytes)
@@ -159,7 +162,8 @@ pub fn read_initiate(bytes: &[u8]) -> Result<Initiate, PduFault>
 /// What the initiate answer that `bytes` are accepts (ISO 9506-2, Initiate-ResponsePDU, tag A9). The form and the
 /// refusals are those of [`read_initiate`].
 pub fn read_initiate_answer(bytes: &[u8]) -> Result<Initiate, PduFault>
-    ensures reads { Reads (λ x. x) result (IsAccepted INITIATE_RESPONSE bytes.now) (IsInitiateRefused INITIATE_RESPONSE bytes.now) }
+    ensures reads { Reads (λ x. x) result (IsAccepted INITIATE_RESPONSE bytes.now)
+        (IsInitiateRefused INITIATE_RESPONSE bytes.now) }
     ensures exact { Gives (λ x. x) result (initiate_at INITIATE_RESPONSE bytes.now) }
 {
     read_tagged(tags::INITIATE_RESPONSE, bytes)

@@ -2,7 +2,9 @@
 
 ghost use Rattle.std.specs.Prelude.{◌≡◌, ◌≤◌, min, max, IfOk};
 ghost use Rattle.ber_write.specs.Minimal.{octets_of, CanBeTag};
-ghost use Rattle.mms_initiate.specs.InitiateOctets.{initiate_content, answer_details, request_details, accepted, proposed, initiate_answer, initiate_request};
+ghost use Rattle.mms_initiate.specs.InitiateOctets.{initiate_content, answer_details};
+ghost use Rattle.mms_initiate.specs.InitiateOctets.{request_details, accepted, proposed};
+ghost use Rattle.mms_initiate.specs.InitiateOctets.{initiate_answer, initiate_request};
 
 use crate::initiate::Initiate;
 use ber_write::{add, enclosed, put_uint};

@@ -59,7 +59,7 @@ may_not test (a ∷ rest) h = (a, rest, refl, h)
 
 -- ---- the invoke number
 
--- what an invoke number tells of the octets behind it
+-- what an invoke number says of the octets after it
 abbrev InvokeTells : List ℕ → Option (ℕ × Piece) → Type 0
 InvokeTells content (Some x) = IsInvoked content x.0 x.1.octets
 InvokeTells content None = (invoke : ℕ) (rest : List ℕ) → ¬ IsInvoked content invoke rest
@@ -88,7 +88,7 @@ invoke_tells_at p None fits h = λ invoke rest is. let again = invoke_again p in
 invoked_bytes : (content : List ℕ) (invoke : ℕ) (rest : List ℕ) → IsBytes content → IsInvoked content invoke rest → IsBytes rest
 invoked_bytes content invoke rest fits (e, begins, tag, is) = (Begins-bytes content e rest fits begins).1
 
--- ---- behind the invoke number
+-- ---- after the invoke number
 
 abbrev ServiceTells : ℕ → List ℕ → Result (Request Piece Spot) PduFault → Type 0
 ServiceTells i rest (Ok r) = (service : Service Piece Spot) × (r ≡ confirmed i service) × (s : Element) × Spells rest s × IsService s (service_octets service)
@@ -238,7 +238,7 @@ service_small s (services.define n vs) h = (omega (arith, h.0), rw h.0 refl)
 service_small s (services.set_of n) h = (omega (arith, h.0), rw h.0 refl)
 service_small s (services.delete scope ns) h = (omega (arith, h.0), rw h.0 refl)
 
--- what is read behind an invoke number is read of the PDU
+-- what is read after an invoke number is read of the PDU
 invoked_again : (p : Piece) (e : Element) (invoke : ℕ) (rest : List ℕ) → Spells p.octets e → e.tag ≡ 160 → IsInvoked e.content invoke rest → request_in p ≡ service_in invoke (behind (content_piece (spot_in p e)) rest)
 unfolding pdu_at
 invoked_again p e invoke rest spells tag is =

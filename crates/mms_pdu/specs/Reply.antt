@@ -65,7 +65,7 @@ IsReply input r = (e : Element) × Spells input e × IsReplyOf input e r
 abbrev pub is_sent : ℕ → Bool
 is_sent tag = tag == CONFIRMED_RESPONSE || tag == CONFIRMED_ERROR || tag == UNCONFIRMED || tag == REJECT || tag == CONCLUDE_RESPONSE
 
--- behind the invoke number stands what is not of the form
+-- after the invoke number stands what is not of the form
 abbrev pub IsMalformed : Element → ℕ → Type 0
 IsMalformed e invoke = (rest : List ℕ) × (((e.tag ≡ CONFIRMED_RESPONSE) × IsNumbered INVOKE_ID e.content invoke rest × ((tag : ℕ) (body : List ℕ) → ¬ IsService rest tag body))
     ⊎ ((e.tag ≡ CONFIRMED_ERROR) × IsNumbered ORIGINAL_INVOKE_ID e.content invoke rest × ((class code : ℕ) → ¬ IsServiceError rest class code))

@@ -58,9 +58,9 @@ abbrev pub IsRequestRefused : List ℕ → PduFault → Type 0
 IsRequestRefused input faults.UnknownPdu = (a : ℕ) × (rest : List ℕ) × (input ≡ a ∷ rest) × (is_pdu a ≡ false)
 -- it is not one whole element, or one that is out of place
 IsRequestRefused input faults.Invalid = MayBegin is_pdu input × (((e : Element) → ¬ Spells input e) ⊎ ((e : Element) × Spells input e × IsOutOfPlace e))
--- behind the invoke number stands an octet of no service
+-- after the invoke number stands an octet of no service
 IsRequestRefused input (faults.UnknownService i) = (e : Element) × Spells input e × (e.tag ≡ CONFIRMED_REQUEST) × (a : ℕ) × (rest : List ℕ) × IsInvoked e.content i (a ∷ rest) × (is_service a ≡ false)
--- behind the invoke number stand octets that are not one service
+-- after the invoke number stand octets that are not one service
 IsRequestRefused input (faults.Argument i) = (e : Element) × Spells input e × (e.tag ≡ CONFIRMED_REQUEST) × (rest : List ℕ) × IsInvoked e.content i rest × MayBegin is_service rest
     × ((s : Element) (service : Service (List ℕ) Seen) → Spells rest s → ¬ IsService s service)
 -- no other refusal is of a request

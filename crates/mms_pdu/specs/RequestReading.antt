@@ -12,7 +12,7 @@ use Rattle.mms_pdu.specs.Services.{is_service, service_at}
 use Rattle.mms_pdu.specs.Request.{Request, confirmed, conclude, disregarded, request_octets, is_disregarded, is_pdu, may_begin, or_fault}
 use Rattle.mms_elements.specs.declared.tags.TheConstants.{CONCLUDE_REQUEST, CONFIRMED_REQUEST, INVOKE_ID}
 
--- the octets behind a piece's first element
+-- the octets after a piece's first element
 abbrev pub behind : Piece → List ℕ → Piece
 behind p rest = record { octets = rest; block = p.block; place = p.place + (length p.octets - length rest) }
 

@@ -3,7 +3,8 @@
 ghost use Rattle.std.specs.Prelude.{◌≡◌, ◌==◌, length};
 ghost use Rattle.std.specs.Option.{option_map};
 ghost use Rattle.ber_view.specs.View.{spot};
-ghost use Rattle.mms_pdu.specs.Access.{access_at, to_read, read_access_at, read_at, counts_agree_at, to_write, data_list_at, write_at};
+ghost use Rattle.mms_pdu.specs.Access.{access_at, to_read, read_access_at, read_at};
+ghost use Rattle.mms_pdu.specs.Access.{counts_agree_at, to_write, data_list_at, write_at};
 ghost use Rattle.mms_pdu.specs.View.{access, service};
 
 use crate::data_list::{DataList, data_of};

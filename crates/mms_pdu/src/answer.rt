@@ -8,7 +8,8 @@ ghost use Rattle.ber_view.specs.View.{spot};
 ghost use Rattle.ber_write.specs.Minimal.{CanBeTag};
 ghost use Rattle.mms_pdu.specs.Access.{access_at};
 ghost use Rattle.ber_grammar.specs.Fields.{only_in};
-ghost use Rattle.mms_pdu.specs.Answer.{IsAnswerBody, is_result, is_written, is_specification, are_results, is_read_answer, is_answer_body};
+ghost use Rattle.mms_pdu.specs.Answer.{IsAnswerBody, is_result, is_written, is_specification};
+ghost use Rattle.mms_pdu.specs.Answer.{are_results, is_read_answer, is_answer_body};
 ghost use Rattle.mms_pdu.specs.ReplyOctets.{answer_octets};
 
 use crate::access::access_of;

@@ -5,7 +5,8 @@ ghost use Rattle.ber_write.specs.Minimal.{CanBeTag};
 ghost use Rattle.sv_base.specs.Depth.{depth, HasNoOther};
 ghost use Rattle.sv_base.specs.Seen.{seen_of};
 ghost use Rattle.mms_data.specs.Writable.{SeenHasFractions};
-ghost use Rattle.mms_pdu.specs.AskingOctets.{AreVisible, one_variable, confirmed_octets, read_request, write_request, conclude_request};
+ghost use Rattle.mms_pdu.specs.AskingOctets.{AreVisible, one_variable, confirmed_octets};
+ghost use Rattle.mms_pdu.specs.AskingOctets.{read_request, write_request, conclude_request};
 
 use ber_write::{add, enclosed, put_uint};
 use mms_data::write_data;

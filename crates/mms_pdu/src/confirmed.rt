@@ -3,7 +3,8 @@
 ghost use Rattle.std.specs.Prelude.{◌≡◌};
 ghost use Rattle.std.specs.Option.{option_map};
 ghost use Rattle.ber_view.specs.View.{spot};
-ghost use Rattle.mms_pdu.specs.Services.{status_at, identify_at, type_of_node_at, set_of_at, service_at};
+ghost use Rattle.mms_pdu.specs.Services.{status_at, identify_at, type_of_node_at, set_of_at};
+ghost use Rattle.mms_pdu.specs.Services.{service_at};
 ghost use Rattle.mms_pdu.specs.View.{service};
 
 use crate::access::{read_of, write_of};

@@ -1,6 +1,6 @@
 //! MMS PDUs (ISO 9506-2, MMSpdu; encoded by ITU-T X.690), read without copying and written.
 //!
-//! Behind the initiate (`mms_initiate`) the server reads what is asked by [`request`], and sends answers, errors, rejects and
+//! After the initiate (`mms_initiate`) the server reads what is asked by [`request`], and sends answers, errors, rejects and
 //! reports. The client asks by the other writers, and reads what comes by [`reply`]. The laws are functions that run nothing.
 #![tactic(auto)]
 

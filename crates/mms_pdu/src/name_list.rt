@@ -4,7 +4,8 @@ ghost use Rattle.std.specs.Prelude.{◌≡◌};
 ghost use Rattle.std.specs.Option.{option_map};
 ghost use Rattle.ber_grammar.specs.Place.{piece};
 ghost use Rattle.ber_view.specs.View.{spot};
-ghost use Rattle.mms_pdu.specs.NameList.{class_at, inner_scope_at, scope_at, after_at, name_list_at};
+ghost use Rattle.mms_pdu.specs.NameList.{class_at, inner_scope_at, scope_at, after_at};
+ghost use Rattle.mms_pdu.specs.NameList.{name_list_at};
 ghost use Rattle.mms_pdu.specs.View.{scope, service};
 
 use crate::number::octet_with;
@@ -43,7 +44,7 @@ fn scope_of<'a>(field: &Tlv<'a>) -> Option<ScopeView<'a>>
     inner_scope_of(&only(field.content)?)
 }
 
-/// The name behind which the list is to begin, if one is given.
+/// The name after which the list is to begin, if one is given.
 fn after_of<'a>(mut fields: Elements<'a>) -> Option<Option<&'a [u8]>>
     ensures { option_map (option_map piece) result ≡ after_at fields.entry }
 {

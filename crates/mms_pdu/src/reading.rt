@@ -5,8 +5,10 @@ ghost use Rattle.std.specs.Option.{option_map};
 ghost use Rattle.ber_grammar.specs.Place.{piece};
 ghost use Rattle.ber_grammar.specs.Reader.{Gives, Reads};
 ghost use Rattle.ber_view.specs.View.{spot};
-ghost use Rattle.mms_pdu.specs.Request.{IsRequest, IsRequestRefused, request_octets, is_disregarded, is_pdu, may_begin};
-ghost use Rattle.mms_pdu.specs.RequestReading.{invoke_in, service_in, pdu_at, request_in, request_at};
+ghost use Rattle.mms_pdu.specs.Request.{IsRequest, IsRequestRefused, request_octets};
+ghost use Rattle.mms_pdu.specs.Request.{is_disregarded, is_pdu, may_begin};
+ghost use Rattle.mms_pdu.specs.RequestReading.{invoke_in, service_in, pdu_at, request_in};
+ghost use Rattle.mms_pdu.specs.RequestReading.{request_at};
 ghost use Rattle.mms_pdu.specs.Services.{is_service};
 ghost use Rattle.mms_pdu.specs.View.{asked};
 
@@ -92,7 +94,7 @@ fn may_begin_service(bytes: &[u8]) -> bool
     }
 }
 
-/// The invoke number, an INTEGER of 32 bits without sign, and the octets behind it.
+/// The invoke number, an INTEGER of 32 bits without sign, and the octets after it.
 #[tactic(auto, unfolding(crate::specs::RequestReading::invoke_in, mms_elements::specs::Invoke::below_at))]
 fn invoke_of(content: &[u8]) -> Option<(u32, &[u8])>
     ensures { option_map (λ x. (x.0, piece x.1)) result ≡ invoke_in (piece content.entry) }
@@ -105,7 +107,7 @@ fn invoke_of(content: &[u8]) -> Option<(u32, &[u8])>
     Some((invoke, rest))
 }
 
-/// What the octets behind an invoke number ask.
+/// What the octets after an invoke number ask.
 #[tactic(auto, unfolding(crate::specs::RequestReading::service_in))]
 fn confirmed_of(invoke: u32, bytes: &[u8]) -> Result<RequestView<'_>, PduFault>
     ensures { Gives asked result (service_in invoke (piece bytes.entry)) }
@@ -164,13 +166,14 @@ fn read_request(bytes: &[u8]) -> Result<RequestView<'_>, PduFault>
 ///
 /// Fails with `UnknownPdu` where the first octet begins no PDU that is known; then with `Invalid` where `bytes` are not
 /// one whole element, where no invoke number begins a confirmed request, where a conclude request has a content, and at
-/// an initiate request; then with `UnknownService` where the first octet behind the invoke number begins no service
+/// an initiate request; then with `UnknownService` where the first octet after the invoke number begins no service
 /// that is known; and then with `Argument` where what stands there is not one whole element of the service's form, has
-/// Data that [`read_data`](mms_data::read_data) refuses for another cause than want of memory, or has values of
+/// Data that [`read_data`](mms_data::read_data) refuses for another cause than out of memory, or has values of
 /// another number than variables.
 pub fn request(bytes: &[u8]) -> Result<RequestView<'_>, PduFault>
     // What the input spells, else the refusal that it earns.
-    ensures reads { Reads (λ x. request_octets (asked x)) result (IsRequest bytes.now) (IsRequestRefused bytes.now) }
+    ensures reads { Reads (λ x. request_octets (asked x)) result (IsRequest bytes.now)
+        (IsRequestRefused bytes.now) }
     ensures exact { Gives (λ x. request_octets (asked x)) result (request_at bytes.now) }
     // Names and Data lie in the input, each where the grammar has it.
     ensures places { Gives asked result (request_in (piece bytes.entry)) }

@@ -2,7 +2,8 @@
 
 ghost use Rattle.std.specs.Prelude.{◌≡◌, ◌++◌, IfOk, OnOk};
 ghost use Rattle.ber_write.specs.Minimal.{octets_of, uint_octets, CanBeTag};
-ghost use Rattle.mms_pdu.specs.ReplyOctets.{invoke_octets, reason_tag, reason_code, reject_octets, CanBeRejected};
+ghost use Rattle.mms_pdu.specs.ReplyOctets.{invoke_octets, reason_tag, reason_code, reject_octets};
+ghost use Rattle.mms_pdu.specs.ReplyOctets.{CanBeRejected};
 
 use crate::reject_reasons;
 use ber_write::{enclosed, put_uint};
@@ -28,7 +29,8 @@ fn put_code(out: &mut Vec<u8>, tag: u32, code: u8) -> Result<(), AllocError>
 
 /// Adds the reason that stands for a refusal.
 fn put_reason(out: &mut Vec<u8>, refusal: u8) -> Result<(), AllocError>
-    ensures { OnOk result (out.new.items ≡ out.old.items ++ octets_of (reason_tag refusal) (uint_octets (reason_code refusal))) }
+    ensures { OnOk result (out.new.items ≡ out.old.items ++ octets_of (reason_tag refusal)
+        (uint_octets (reason_code refusal))) }
 {
     match refusal {
         rejections::UNKNOWN_PDU => put_code(

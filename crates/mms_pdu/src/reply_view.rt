@@ -6,7 +6,8 @@ ghost use Rattle.ber_grammar.specs.Place.{piece};
 ghost use Rattle.ber_grammar.specs.Reader.{Gives, Reads};
 ghost use Rattle.ber_view.specs.View.{spot};
 ghost use Rattle.mms_pdu.specs.Reply.{reply_octets, IsReply, IsReplyRefused};
-ghost use Rattle.mms_pdu.specs.ReplyReading.{service_in, answer_in, class_at, class_in, error_class_in, service_error_in, error_in, reason_at};
+ghost use Rattle.mms_pdu.specs.ReplyReading.{service_in, answer_in, class_at, class_in};
+ghost use Rattle.mms_pdu.specs.ReplyReading.{error_class_in, service_error_in, error_in, reason_at};
 ghost use Rattle.mms_pdu.specs.ReplyReading.{reject_in, pdu_in, reply_in};
 ghost use Rattle.mms_pdu.specs.ReplyView.{reply_of, IsPlaced};
 
@@ -177,16 +178,17 @@ fn read_reply(bytes: &[u8]) -> Result<ReplyView<'_>, PduFault>
 /// What a server sends to a client that is connected (ISO 9506-2, MMSpdu), in place: an answer A1, an error A2, an
 /// unconfirmed PDU A3, a reject A4 or the end of a conclude, 8C. It takes no memory.
 ///
-/// Of an answer the invoke number and the one element behind it are read, and the body where it is that of a read, A4, or
+/// Of an answer the invoke number and the one element after it are read, and the body where it is that of a read, A4, or
 /// of a write, A5. An error has the invoke number and a ServiceError with its class alone, the class and the code below
 /// 256. A reject has an optional invoke number and one reason, 81 to 8B, the code below 256.
 ///
-/// Fails with `UnknownPdu` where the first octet begins no PDU; with `Argument` where behind an invoke number stands what
+/// Fails with `UnknownPdu` where the first octet begins no PDU; with `Argument` where after an invoke number stands what
 /// is not of the form; else with `Invalid`: where `bytes` are not one whole PDU, have no invoke number, or are one that no
 /// server sends to a client that is connected.
 pub fn reply(bytes: &[u8]) -> Result<ReplyView<'_>, PduFault>
     // What the input spells, else the refusal that it earns.
-    ensures reads { Reads (λ r. reply_octets (reply_of r)) result (IsReply bytes.now) (IsReplyRefused bytes.now) }
+    ensures reads { Reads (λ r. reply_octets (reply_of r)) result (IsReply bytes.now)
+        (IsReplyRefused bytes.now) }
     ensures exact { Gives reply_of result (reply_in (piece bytes.entry)) }
     // What is given back is a slice of the input.
     ensures places { IfOk result (λ r. IsPlaced bytes.entry r) }

@@ -6,7 +6,8 @@ ghost use Rattle.ber_grammar.specs.Octets.{IsBytes};
 ghost use Rattle.ber_grammar.specs.Place.{piece};
 ghost use Rattle.ber_view.specs.View.{spot};
 ghost use Rattle.sv_base.specs.Tree.{Seen};
-ghost use Rattle.mms_pdu.specs.Results.{seen_result, SaysRead, SaysWritten, read_at, written_at, results_at, one_read, one_write};
+ghost use Rattle.mms_pdu.specs.Results.{seen_result, SaysRead, SaysWritten, read_at, written_at};
+ghost use Rattle.mms_pdu.specs.Results.{results_at, one_read, one_write};
 
 use crate::answer::specifies;
 use ber_view::{Elements, Tlv, fields, only};
@@ -50,7 +51,7 @@ fn written_of(field: &Tlv<'_>) -> Option<Result<(), u8>>
     None
 }
 
-/// The element with the results of a read, behind the specification, which may be absent.
+/// The element with the results of a read, after the specification, which may be absent.
 fn results_of(mut fields: Elements<'_>) -> Option<Tlv<'_>>
     ensures { option_map spot result ≡ results_at fields.entry }
 {
@@ -113,6 +114,8 @@ pub fn write_result(body: &[u8]) -> Option<Result<(), u8>>
 
 /// The body of an answer says one thing at most of one variable.
 pub fn each_answer_says_one_result()
-    ensures read { (body : List ℕ) (q r : Result Seen ℕ) → IsBytes body → SaysRead body q → SaysRead body r → q ≡ r }
-    ensures written { (body : List ℕ) (q r : Result (Unit {0}) ℕ) → IsBytes body → SaysWritten body q → SaysWritten body r → q ≡ r }
+    ensures read { (body : List ℕ) (q r : Result Seen ℕ) → IsBytes body → SaysRead body q
+        → SaysRead body r → q ≡ r }
+    ensures written { (body : List ℕ) (q r : Result (Unit {0}) ℕ) → IsBytes body
+        → SaysWritten body q → SaysWritten body r → q ≡ r }
 {}

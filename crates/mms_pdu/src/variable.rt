@@ -34,7 +34,7 @@ pub(crate) fn named_of<'a>(tag: u32, field: &Tlv<'a>) -> Option<NameView<'a>>
     name_of(&only(field.content)?)
 }
 
-/// Whether alternate access is asked for behind the name.
+/// Whether alternate access is asked for after the name.
 fn alternate_of(mut fields: Elements<'_>) -> Option<bool>
     ensures { result ≡ alternate_at fields.entry }
 {

@@ -1,4 +1,4 @@
-//! Numbers of parts: a count that no number can hold is refused as memory that is wanting.
+//! Numbers of parts: a count that no number can hold is refused as out of memory.
 
 ghost use Rattle.std.specs.Prelude.{◌≡◌, ◌+◌, IfOk};
 

@@ -23,7 +23,8 @@ pub struct Places<'a> {
 fn add<'a>(numbers: &mut Numbers<'a>, name: &'a [u8], place: usize) -> Result<(), AllocError>
     requires { get_by (λ k. bytes_eq name.now k.now) numbers.old ≡ None }
     ensures { OnOk result ((other : List ℕ) → get_by (λ k. bytes_eq other k.now) numbers.new
-        ≡ number_or (get_by (λ k. bytes_eq other k.now) numbers.old) (bytes_eq other name.now) place) }
+        ≡ number_or (get_by (λ k. bytes_eq other k.now) numbers.old)
+        (bytes_eq other name.now) place) }
 {
     numbers.insert(name, place)?;
     Ok(())
@@ -45,7 +46,8 @@ impl<'a> Places<'a> {
     /// One more name, at the next place.
     pub fn push(&mut self, name: &'a [u8], place: usize) -> Result<(), AllocError>
         requires { place_in self.old name.now ≡ None }
-        ensures { OnOk result ((names : List (List ℕ)) → PlacesOf self.old names → place ≡ length names → PlacesOf self.new (names ++ name.now ∷ [])) }
+        ensures { OnOk result ((names : List (List ℕ)) → PlacesOf self.old names
+            → place ≡ length names → PlacesOf self.new (names ++ name.now ∷ [])) }
     {
         add(&mut self.numbers, name, place)?;
         Ok(())

@@ -126,7 +126,7 @@ module _ {X : Type 0} (of : Place → X) where
 pub one-and : {X : Type 0} (old mid new others : List X) (x : X) → mid ≡ old ++ x ∷ [] → new ≡ mid ++ others → new ≡ old ++ (x ∷ others)
 one-and old mid new others x m n = n ∙ (ap (λ l. l ++ others) m ∙ append_assoc old (x ∷ []) others)
 
--- the same, the one being set behind the others
+-- the same, the one being set after the others
 pub set-and : {X : Type 0} (old mid now new others : List X) (y x : X) (place : ℕ) → place ≡ length old → mid ≡ old ++ y ∷ [] → now ≡ mid ++ others → new ≡ set now place x → new ≡ old ++ (x ∷ others)
 set-and old mid now new others y x place p m n k = k ∙ (ap₂ (λ l (i : ℕ). set l i x) (one-and old mid now others y m n) p ∙ set-append_seam old y others x)
 
@@ -145,7 +145,7 @@ grown-after l gs g old new b o p a = record {
 pub grown-more : (l : ℕ) (gs : List Group) (i : ℕ) (g h : Group) (new : Grown) → i < length gs → g ≡ get_or gs i g → h ≡ g → IsGrown new (forest_of l (take i gs ++ h ∷ [])) → IsGrown new (forest_of l (take (i + 1) gs))
 grown-more l gs i g h new lt e s p = subst (λ x. IsGrown new (forest_of l x)) (ap (λ (x : Group). take i gs ++ x ∷ []) s ∙ sym (next gs i g lt e)) p
 
--- the same names with more room
+-- the same names with more capacity
 pub with-room : (old new : Grown) → new.parts.items ≡ old.parts.items → new.attrs ≡ old.attrs → new.is_data ≡ old.is_data → new.leaves ≡ old.leaves → IsGrown old nothing → IsGrown new nothing
 with-room old new p a d l h = record { parts = p ∙ h.parts; attrs = a ∙ h.attrs; is_data = d ∙ h.is_data; leaves = l ∙ h.leaves }
 

@@ -29,7 +29,7 @@ row_with n item s as_ = record {
   shape = record { node = record { 0 = n }; kind = s.kind; attrs = as_ };
 }
 
--- nodes at these items, whose attributes stand in a row: a node's begin behind those that the nodes before it are themselves
+-- nodes at these items, whose attributes stand in a row: a node's begin after those that the nodes before it are themselves
 abbrev pub rows_with : ℕ → List (List ℕ) → List AttrId → List Spot → List NodeRow
 rows_with n items as_ [] = []
 rows_with n items as_ (s ∷ ss) = row_with n (name_at items 0) s (take s.attrs as_) ∷ rows_with (suc n) (drop 1 items) (drop (length (own_attrs s.what)) as_) ss

@@ -20,7 +20,7 @@ pub record Finds (c : Config) (names : List (List ℕ)) (ds : List Directory) : 
 
 -- ---- for the code
 
--- its reference is this one, and its domain has so many octets
+-- its reference is this one, and its domain has n octets
 abbrev pub is_cut : List ℕ → ℕ → Node → Bool
 is_cut reference octets n = (length n.domain == octets) && bytes_eq reference (reference_of n.domain n.item)
 

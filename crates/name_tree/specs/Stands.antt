@@ -16,7 +16,7 @@ abbrev pub owns : List Spot → List Leaf
 owns [] = []
 owns (s ∷ ss) = option_list s.own ++ owns ss
 
--- a node's leaves begin behind those of the nodes before it
+-- a node's leaves begin after those of the nodes before it
 abbrev pub stands_from : ℕ → List Spot → List Stand
 stands_from n [] = []
 stands_from n (s ∷ ss) = record { what = s.what; first = n; end = n + s.leaves } ∷ stands_from (n + length (option_list s.own)) ss

@@ -20,7 +20,8 @@ use octet_rows::Index;
 /// The number of the node of an item, by the names of its domain; none exactly where it is not there.
 fn number_in_domain(directory: &Directory, item: &[u8]) -> Option<u32>
     ensures { directory.now.first + length directory.now.items < 4294967296
-        → result ≡ option_map (λ place. directory.now.first + place) (number_in directory.now.items item.now) }
+        → result ≡ option_map (λ place. directory.now.first + place)
+        (number_in directory.now.items item.now) }
 {
     match directory.items.place_of(item) {
         None => None,
@@ -35,7 +36,8 @@ pub fn number_of(
     domain: &[u8],
     item: &[u8],
 ) -> Option<u32>
-    ensures { (c : ModelConfig) → Finds c domains.now directories.now → result ≡ node_named (nodes_of c) domain.now item.now }
+    ensures { (c : ModelConfig) → Finds c domains.now directories.now
+        → result ≡ node_named (nodes_of c) domain.now item.now }
 {
     match domains.place_of(domain) {
         None => None,
@@ -48,7 +50,8 @@ pub fn number_of(
 
 /// The item of a node, by where its name is.
 pub fn item_at(directories: &[Directory], name: NodeName) -> &[u8]
-    ensures { (c : ModelConfig) (domains : List (List ℕ)) → Finds c domains directories.now → name.domain < length (domains_of c)
+    ensures { (c : ModelConfig) (domains : List (List ℕ)) → Finds c domains directories.now
+        → name.domain < length (domains_of c)
         → result.now ≡ name_at_place (items_at c name.domain) name.place }
 {
     match directories.get(name.domain as usize) {
@@ -60,7 +63,8 @@ pub fn item_at(directories: &[Directory], name: NodeName) -> &[u8]
 /// The first node of a reference `LD/item` whose domain ends at a place of it.
 fn cut_at(domains: &Index, directories: &[Directory], reference: &[u8], at: usize) -> Option<u32>
     requires { at < length reference.now }
-    ensures { (c : ModelConfig) → Finds c domains.now directories.now → result ≡ position (is_cut reference.now at) (nodes_of c) }
+    ensures { (c : ModelConfig) → Finds c domains.now directories.now
+        → result ≡ position (is_cut reference.now at) (nodes_of c) }
 {
     if reference[at] != b'/' {
         return None;
@@ -82,7 +86,8 @@ fn least(one: Option<u32>, other: Option<u32>) -> Option<u32>
 /// The first node of a reference; none exactly where it is not there. The name of a domain may have a `/` as well.
 fn first_of(domains: &Index, directories: &[Directory], reference: &[u8]) -> Option<u32>
     ensures { (c : ModelConfig) → Finds c domains.now directories.now
-        → result ≡ position (λ (n : Node). bytes_eq reference.now (reference_of n.domain n.item)) (nodes_of c) }
+        → result ≡ position (λ (n : Node). bytes_eq reference.now
+        (reference_of n.domain n.item)) (nodes_of c) }
 {
     let mut first = None;
     for at in 0..reference.len() {
@@ -93,7 +98,8 @@ fn first_of(domains: &Index, directories: &[Directory], reference: &[u8]) -> Opt
 
 /// The number of the member of a data set, by its reference; 0 where it is not there.
 pub fn member_of(domains: &Index, directories: &[Directory], reference: &[u8]) -> u32
-    ensures { (c : ModelConfig) → Finds c domains.now directories.now → result ≡ member_number (nodes_of c) reference.now }
+    ensures { (c : ModelConfig) → Finds c domains.now directories.now
+        → result ≡ member_number (nodes_of c) reference.now }
 {
     first_of(domains, directories, reference).unwrap_or(0)
 }

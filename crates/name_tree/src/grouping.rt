@@ -1,7 +1,8 @@
 //! What is named, in groups by the first name.
 
 ghost use Rattle.std.specs.Prelude.{◌≡◌, ◌++◌, ◌∷◌, [], map, IfOk, OnOk};
-ghost use Rattle.name_tree.specs.Groups.{groups as groups_in, group_name, put as put_in, with_named, AreGroups, PlacesFront};
+ghost use Rattle.name_tree.specs.Groups.{groups as groups_in, group_name, put as put_in};
+ghost use Rattle.name_tree.specs.Groups.{with_named, AreGroups, PlacesFront};
 ghost use Rattle.name_leaves.specs.Indexes.{PlacesOf};
 ghost use Rattle.name_leaves.specs.Numbers.{number_in};
 
@@ -23,7 +24,10 @@ fn push_group<'a>(
     name: &'a [u8],
     cut: Cut<'a>,
 ) -> Result<(), AllocError>
-    ensures { OnOk result (groups.new.items ≡ groups.old.items ++ record { name = name.now; names = cut.entry ∷ [] } ∷ []) }
+    ensures { OnOk result (groups.new.items ≡ groups.old.items ++ record {
+      name = name.now;
+      names = cut.entry ∷ [];
+    } ∷ []) }
 {
     groups.push(group_of(name, cut))?;
     Ok(())

@@ -65,7 +65,7 @@ pub fn front(item: &[u8]) -> &[u8]
     &item[..name_len(item)]
 }
 
-/// What stands behind the first `$`, whose place this is.
+/// What stands after the first `$`, whose place this is.
 fn behind_at(item: &[u8], place: usize) -> &[u8]
     requires { place ≡ position_or_len (λ o. o == 36) item.now }
     ensures { result.now ≡ after_first (λ o. o == 36) item.now }
@@ -77,14 +77,14 @@ fn behind_at(item: &[u8], place: usize) -> &[u8]
     }
 }
 
-/// What stands behind the first `$`.
+/// What stands after the first `$`.
 pub fn behind(item: &[u8]) -> &[u8]
     ensures { result.now ≡ after_first (λ o. o == 36) item.now }
 {
     behind_at(item, name_len(item))
 }
 
-/// The name up to the first `$`, and what is named behind it.
+/// The name up to the first `$`, and what is named after it.
 pub fn parted<'a>(cut: &Cut<'a>) -> (&'a [u8], Cut<'a>)
     ensures name { result.0.now ≡ first_name cut.now }
     ensures rest { result.1 ≡ rest_of cut.now }
@@ -133,7 +133,8 @@ pub fn push_into<'a>(
     cut: Cut<'a>,
 ) -> Result<(), AllocError>
     requires { place < length groups.old.items }
-    ensures { OnOk result ((d : Group) → groups.new.items ≡ set groups.old.items place (with_cut (get_or groups.old.items place d) cut.entry)) }
+    ensures { OnOk result ((d : Group) → groups.new.items ≡ set groups.old.items place
+        (with_cut (get_or groups.old.items place d) cut.entry)) }
 {
     push_cut(alloc, &mut groups[place], cut)
 }

@@ -1,6 +1,7 @@
 //! The nodes of a domain, grown out of what its lines name: a node before its parts.
 
-ghost use Rattle.std.specs.Prelude.{◌≡◌, ◌<◌, ◌+◌, ◌++◌, ◌∷◌, [], ◌&&◌, List, set, map, length, IfOk, OnOk};
+ghost use Rattle.std.specs.Prelude.{◌≡◌, ◌<◌, ◌+◌, ◌++◌, ◌∷◌, [], ◌&&◌, List, set, map, length};
+ghost use Rattle.std.specs.Prelude.{IfOk, OnOk};
 ghost use Rattle.std.specs.Option.{option_map};
 ghost use Rattle.sv_base.specs.Fields.{fields_of};
 ghost use Rattle.bay_model.specs.NameTree.{role_of, own_type as own_type_of, grown};
@@ -52,7 +53,7 @@ pub struct Grown {
 impl Growth {
     ghost use Rattle.std.specs.Prelude.{◌≡◌, [], IfOk};
 
-    /// Nothing has grown, and there is room for so many nodes, at 24 octets an item.
+    /// Nothing has grown, and there is capacity for n nodes, at 24 octets an item.
     pub fn with_capacity(alloc: Global, nodes: usize) -> Result<Self, AllocError>
         ensures items { IfOk result (λ g. g.items ≡ []) }
         ensures spots { IfOk result (λ g. g.spots.items ≡ []) }
@@ -124,7 +125,7 @@ fn is_data(what: What) -> bool
     matches!(what, What::Attribute(_) | What::Structure)
 }
 
-/// How many attributes a name has, whose parts have so many.
+/// How many attributes a name has, whose parts have that many.
 fn attrs_of(what: What, below: u32) -> Result<u32, AllocError>
     ensures { IfOk result (λ n. n ≡ length (attrs_of_role (role_seen what)) + below) }
 {
@@ -137,7 +138,8 @@ fn attrs_of(what: What, below: u32) -> Result<u32, AllocError>
 /// The leaf of a name without parts, none where it has some.
 #[tactic(auto, using(crate::proofs::LeafLaws::own_with_parts, crate::proofs::LeafLaws::own_without))]
 fn own_of(what: What, parts: &Vec<Part1>) -> Option<Leaf>
-    ensures { result ≡ option_map leaf_code (own_with (role_seen what) (fields_of parts.now.items)) }
+    ensures { result ≡ option_map leaf_code
+        (own_with (role_seen what) (fields_of parts.now.items)) }
 {
     if !parts.is_empty() {
         return None;
@@ -145,7 +147,7 @@ fn own_of(what: What, parts: &Vec<Part1>) -> Option<Leaf>
     own_leaf(what)
 }
 
-/// How many leaves a name has, whose parts have so many.
+/// How many leaves a name has, whose parts have that many.
 fn leaves_of(own: Option<Leaf>, below: u32) -> Result<u32, AllocError>
     ensures { IfOk result (λ n. n ≡ own_count own + below) }
 {
@@ -155,7 +157,7 @@ fn leaves_of(own: Option<Leaf>, below: u32) -> Result<u32, AllocError>
     }
 }
 
-/// Sets the node of a name, of these parts with so many attributes and leaves.
+/// Sets the node of a name, of these parts with n attributes and leaves.
 #[tactic(auto, using(name_leaves::proofs::LeafLaws::what_back))]
 fn set_spot(
     alloc: Global,
@@ -163,7 +165,8 @@ fn set_spot(
     cuts: &[Cut<'_>],
     below: Grown,
 ) -> Result<(), AllocError>
-    ensures { OnOk result (spot.new ≡ spot_with (record { name = []; names = cuts.now }) (fields_of below.parts.items) below.attrs below.is_data below.leaves) }
+    ensures { OnOk result (spot.new ≡ spot_with (record { name = []; names = cuts.now })
+        (fields_of below.parts.items) below.attrs below.is_data below.leaves) }
 {
     let what = what_of(cuts);
     let own = own_of(what, &below.parts);
@@ -178,7 +181,8 @@ fn set_spot(
 
 /// Adds a name to the parts of a structure, by its node.
 fn add_part(alloc: Global, all: &mut Grown, name: &[u8], spot: &Spot) -> Result<(), AllocError>
-    ensures parts { OnOk result (all.new.parts.items ≡ all.old.parts.items ++ record { name = name.now; kind = spot.now.kind } ∷ []) }
+    ensures parts { OnOk result (all.new.parts.items ≡ all.old.parts.items
+        ++ record { name = name.now; kind = spot.now.kind } ∷ []) }
     ensures attrs { OnOk result (all.new.attrs ≡ all.old.attrs + spot.now.attrs) }
     ensures is_data { OnOk result (all.new.is_data ≡ all.old.is_data && spot.now.is_data) }
     ensures leaves { OnOk result (all.new.leaves ≡ all.old.leaves + spot.now.leaves) }
@@ -192,12 +196,14 @@ fn add_part(alloc: Global, all: &mut Grown, name: &[u8], spot: &Spot) -> Result<
     Ok(())
 }
 
-/// Adds the item of a name and room for its node, and goes from what stands before the name to what stands before its parts: the
-/// name and `$` behind it.
+/// Adds the item of a name and memory for its node, and goes from what stands before the name to what stands before its parts: the
+/// name and `$` after it.
 fn enter(growth: &mut Growth, name: &[u8]) -> Result<(), AllocError>
-    ensures items { OnOk result (growth.new.items ≡ growth.old.items ++ (growth.old.path.items ++ name.now) ∷ []) }
+    ensures items { OnOk result (growth.new.items ≡ growth.old.items
+        ++ (growth.old.path.items ++ name.now) ∷ []) }
     ensures spots { OnOk result (growth.new.spots.items ≡ growth.old.spots.items ++ room ∷ []) }
-    ensures path { OnOk result (growth.new.path.items ≡ growth.old.path.items ++ name.now ++ 36 ∷ []) }
+    ensures path { OnOk result (growth.new.path.items ≡ growth.old.path.items
+        ++ name.now ++ 36 ∷ []) }
 {
     growth.path.extend_from_slice(name)?;
     growth.items.push(&growth.path)?;
@@ -225,12 +231,20 @@ fn add_name(
 ) -> Result<(), AllocError>
     requires { place < length spots.old.items }
     ensures spots { OnOk result (spots.new.items ≡ set spots.old.items place
-        (spot_with (record { name = name.now; names = cuts.now }) (fields_of below.parts.items) below.attrs below.is_data below.leaves)) }
+        (spot_with (record { name = name.now; names = cuts.now })
+        (fields_of below.parts.items) below.attrs below.is_data below.leaves)) }
     ensures parts { OnOk result (all.new.parts.items ≡ all.old.parts.items
-        ++ record { name = name.now; kind = type_with (own_type_of cuts.now) (fields_of below.parts.items) } ∷ []) }
-    ensures attrs { OnOk result (all.new.attrs ≡ all.old.attrs + (length (attrs_of_role (role_of cuts.now)) + below.attrs)) }
-    ensures is_data { OnOk result (all.new.is_data ≡ all.old.is_data && (is_data_role (role_of cuts.now) && below.is_data)) }
-    ensures leaves { OnOk result (all.new.leaves ≡ all.old.leaves + leaves_with (record { name = name.now; names = cuts.now })
+        ++ record {
+          name = name.now;
+          kind = type_with (own_type_of cuts.now)
+              (fields_of below.parts.items);
+        } ∷ []) }
+    ensures attrs { OnOk result (all.new.attrs ≡ all.old.attrs +
+        (length (attrs_of_role (role_of cuts.now)) + below.attrs)) }
+    ensures is_data { OnOk result (all.new.is_data ≡ all.old.is_data
+        && (is_data_role (role_of cuts.now) && below.is_data)) }
+    ensures leaves { OnOk result (all.new.leaves ≡ all.old.leaves + leaves_with
+        (record { name = name.now; names = cuts.now })
         (fields_of below.parts.items) below.leaves) }
 {
     let spot = &mut spots[place];
@@ -249,11 +263,16 @@ fn grow_name(
     levels: usize,
 ) -> Result<(), AllocError>
     ensures grown { OnOk result ((gs : List Group) → IsGrown all.old (forest_of levels gs)
-        → IsGrown all.new (forest_of levels (gs ++ record { name = name.now; names = cuts.now } ∷ []))) }
+        → IsGrown all.new (forest_of levels (gs ++ record {
+          name = name.now;
+          names = cuts.now;
+        } ∷ []))) }
     ensures items { OnOk result (growth.new.items ≡ growth.old.items ++ items_of
-        (places growth.old.path.items (forest_of levels (record { name = name.now; names = cuts.now } ∷ [])))) }
+        (places growth.old.path.items
+        (forest_of levels (record { name = name.now; names = cuts.now } ∷ [])))) }
     ensures spots { OnOk result (growth.new.spots.items ≡ growth.old.spots.items ++ map spot
-        (places growth.old.path.items (forest_of levels (record { name = name.now; names = cuts.now } ∷ [])))) }
+        (places growth.old.path.items
+        (forest_of levels (record { name = name.now; names = cuts.now } ∷ [])))) }
     ensures path { OnOk result (growth.new.path.items ≡ growth.old.path.items) }
 {
     let (len, place) = (growth.path.len(), growth.spots.len());
@@ -274,9 +293,12 @@ pub fn grow(
     cuts: &[Cut<'_>],
     levels: usize,
 ) -> Result<(), AllocError>
-    ensures grown { OnOk result (IsGrown all.old nothing → IsGrown all.new (grown levels cuts.now)) }
-    ensures items { OnOk result (growth.new.items ≡ growth.old.items ++ items_of (places growth.old.path.items (grown levels cuts.now))) }
-    ensures spots { OnOk result (growth.new.spots.items ≡ growth.old.spots.items ++ map spot (places growth.old.path.items (grown levels cuts.now))) }
+    ensures grown { OnOk result (IsGrown all.old nothing
+        → IsGrown all.new (grown levels cuts.now)) }
+    ensures items { OnOk result (growth.new.items ≡ growth.old.items ++ items_of
+        (places growth.old.path.items (grown levels cuts.now))) }
+    ensures spots { OnOk result (growth.new.spots.items ≡ growth.old.spots.items ++ map spot
+        (places growth.old.path.items (grown levels cuts.now))) }
     ensures path { OnOk result (growth.new.path.items ≡ growth.old.path.items) }
 {
     if levels == 0 {

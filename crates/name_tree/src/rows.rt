@@ -64,8 +64,10 @@ pub fn push_nodes(
     spots: Vec<Spot>,
     attrs: &AttrIds,
 ) -> Result<(), AllocError>
-    ensures rows { OnOk result (rows.new.items ≡ rows.old.items ++ rows_with (length rows.old.items) items.now attrs.now spots.items) }
-    ensures names { OnOk result (names.new.items ≡ names.old.items ++ names_at domain 0 spots.items) }
+    ensures rows { OnOk result (rows.new.items ≡ rows.old.items ++ rows_with
+        (length rows.old.items) items.now attrs.now spots.items) }
+    ensures names { OnOk result (names.new.items ≡ names.old.items
+        ++ names_at domain 0 spots.items) }
 {
     let mut place = 0;
     let mut first = 0;

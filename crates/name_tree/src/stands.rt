@@ -34,7 +34,11 @@ fn push_stand(
 ) -> Result<(), AllocError>
     ensures leaves { OnOk result (leaves.new.items ≡ leaves.old.items ++ option_list spot.now.own) }
     ensures stands { OnOk result (stands.new.items ≡ stands.old.items
-        ++ record { what = spot.now.what; first = length leaves.old.items; end = length leaves.old.items + spot.now.leaves } ∷ []) }
+        ++ record {
+          what = spot.now.what;
+          first = length leaves.old.items;
+          end = length leaves.old.items + spot.now.leaves;
+        } ∷ []) }
 {
     let first = count(leaves.len())?;
     let end = plus(first, spot.leaves)?;
@@ -53,7 +57,8 @@ pub fn push_stands(
     spots: &[Spot],
 ) -> Result<(), AllocError>
     ensures leaves { OnOk result (leaves.new.items ≡ leaves.old.items ++ owns spots.now) }
-    ensures stands { OnOk result (stands.new.items ≡ stands.old.items ++ stands_from (length leaves.old.items) spots.now) }
+    ensures stands { OnOk result (stands.new.items ≡ stands.old.items ++ stands_from
+        (length leaves.old.items) spots.now) }
 {
     for spot in spots {
         push_stand(stands, leaves, spot)?;

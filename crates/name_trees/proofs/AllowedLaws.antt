@@ -42,7 +42,7 @@ use Rattle.name_trees.proofs.NodeLaws.{reached, reach, IsKey, closed-key, leaf-k
 use Rattle.name_trees.proofs.MemberLaws.{constraint-of, with-front, closed_constraint, closed-under, IsLeafItem, leaf-item, typed-line}
 use Rattle.list_laws.proofs.Truths.{both-ways}
 
--- an item of three names tells the functional constraint of what goes on from it
+-- an item of three names says the functional constraint of what goes on from it
 front-constraint : (names : List (List ℕ)) (item i : List ℕ) → joined names ≡ item → ArePlain names → 3 ≤ length names → IsFront item i → constraint i ≡ constraint item
 front-constraint [] item i e plain h f = absurd (omega (arith, h))
 front-constraint (a ∷ []) item i e plain h f = absurd (omega (arith, h))

@@ -41,7 +41,7 @@ front-first item = by (cut item)
     by (inl h) = inl (sym (first-alone item h))
     by (inr h) = inr (h.1, h.3 ∙ ap (λ l. l ++ 36 ∷ h.1) (sym (ap first h.3 ∙ first-before h.0 h.1 h.2)))
 
--- the first name and what stands behind it
+-- the first name and what stands after it
 pub whole : (item : List ℕ) → (length (rest item) == 0) ≡ false → item ≡ first item ++ 36 ∷ rest item
 whole item some = by (cut item)
   where

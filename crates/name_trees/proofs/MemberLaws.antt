@@ -58,7 +58,7 @@ abbrev leaf_constraint : Line → List ℕ
 leaf_constraint (lines.Attr a) = a.fc
 leaf_constraint line = codes "CF"
 
--- what follows tells of a line
+-- what follows says of a line
 pub follows-of : (told : List Line) (text : List ℕ) (line : Line) → AreLines text told → Among line told → (before : List Line) × Follows before line
 follows-of [] text line h i = absurd i
 follows-of (l ∷ before) text line h (inl e) = (before, subst (Follows before) (sym e) h.4.follows)
@@ -83,7 +83,7 @@ module _ (text : List ℕ) (told : List Line) (are : AreLines text told) where
       by (lines.Sgcb g) h k = constraint-of (codes "LLN0") (codes "SP") (codes "SGCB") i (name-plain (codes "LLN0") refl).1 (refl, (refl, tt)) (with-front (codes "LLN0$SP$SGCB") i group_parts k)
       by line h k = absurd k
 
-  -- a leaf's item: its names, few and plain, behind a functional constraint that members may have
+  -- a leaf's item: its names, few and plain, after a functional constraint that members may have
   pub record IsLeafItem (i : List ℕ) : Type 0 where
     pub names : List (List ℕ)
     pub is : i ≡ joined names

@@ -82,7 +82,7 @@ count-both (Ok vs) (Ok ws) m n h k = omega (arith, length-append vs ws, h, k)
 count-both (Ok vs) (Err e) m n h k = tt
 count-both (Err e) y m n h k = tt
 
--- more values behind change nothing
+-- more values after change nothing
 mutual
   with-front : (s : Shape) (vs ws : List Value) → members.leaves s ≤ length vs → value_with s (vs ++ ws) ≡ value_with s vs
   with-front (simple k) [] ws h = absurd (omega (arith, h))

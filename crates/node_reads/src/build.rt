@@ -43,8 +43,10 @@ fn build_parts(
     parts: &[Part1],
     rest: &mut VecDeque<Value>,
 ) -> Result<Vec<Value>, AllocError>
-    ensures value { IfOk result (λ vs. row_of vs.items ≡ row_with (fields_of parts.now) rest.old.items) }
-    ensures rest { OnOk result (rest.new.items ≡ drop (leaves_in (fields_of parts.now)) rest.old.items) }
+    ensures value { IfOk result (λ vs. row_of vs.items ≡ row_with
+        (fields_of parts.now) rest.old.items) }
+    ensures rest { OnOk result
+        (rest.new.items ≡ drop (leaves_in (fields_of parts.now)) rest.old.items) }
 {
     let mut values = Vec::new(alloc);
     for part in parts {

@@ -19,5 +19,6 @@ pub fn reads_are_of_leaves()
 
 /// With what the leaves of a bay read as at a point of its history, it is what the bay's nodes read as.
 pub fn reads_are_the_models()
-    ensures { (c : Model) (past : Past) (t : Tree) → read_by (leaf_read (read_leaf c past)) t ≡ read_tree c past t }
+    ensures { (c : Model) (past : Past) (t : Tree) → read_by (leaf_read (read_leaf c past)) t
+        ≡ read_tree c past t }
 {}

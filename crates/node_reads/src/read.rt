@@ -46,7 +46,8 @@ fn gather<V: LeafValues>(
     values: &V,
     leaves: &[Leaf],
 ) -> Result<Result<VecDeque<Value>, u8>, AllocError>
-    ensures { IfOk result (λ r. queued r ≡ all_or_first (map (leaf_at (V.given values.now)) leaves.now)) }
+    ensures { IfOk result (λ r. queued r ≡ all_or_first
+        (map (leaf_at (V.given values.now)) leaves.now)) }
 {
     let mut all = VecDeque::new(alloc);
     for leaf in leaves {
@@ -65,7 +66,8 @@ pub fn read_type<V: LeafValues>(
     kind: &TypeOf,
     leaves: &[Leaf],
 ) -> Result<Result<Value, u8>, AllocError>
-    ensures { IfOk result (λ r. r ≡ typed kind.now (all_or_first (map (leaf_at (V.given values.now)) leaves.now))) }
+    ensures { IfOk result (λ r. r ≡ typed kind.now
+        (all_or_first (map (leaf_at (V.given values.now)) leaves.now))) }
 {
     match gather(alloc, values, leaves)? {
         Ok(all) => {
@@ -86,7 +88,8 @@ pub fn read_node<V: LeafValues>(
     node: NodeId,
 ) -> Result<Result<Value, u8>, AllocError>
     requires { node.0 < length (nodes model.now) }
-    ensures { IfOk result (λ r. r ≡ read_by (leaf_read (V.given values.now)) (node_of (configured_model model.now) node.0).tree) }
+    ensures { IfOk result (λ r. r ≡ read_by (leaf_read (V.given values.now))
+        (node_of (configured_model model.now) node.0).tree) }
 {
     // its attributes are of the types that an attribute may have, none of them a structure
     let _config = model.config();

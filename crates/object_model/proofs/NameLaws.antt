@@ -79,7 +79,7 @@ abbrev IsTail : List ℕ → Type 0
 IsTail [] = Unit {0}
 IsTail (o ∷ os) = o ≡ 36
 
--- a name behind what stands before it, and at most further names
+-- a name after what stands before it, and at most further names
 abbrev Starts : List ℕ → List ℕ → List ℕ → Type 0
 Starts before n item = (t : List ℕ) × IsTail t × (item ≡ before ++ (n ++ t))
 

@@ -73,7 +73,7 @@ front d (x ∷ xs) (suc n) (suc j) h = front d xs n j (omega (arith, h))
 abbrev pub AreOf : List ℕ → List Line → Type 0
 AreOf domain ls = (k : ℕ) (d : Line) → k < length ls → bytes_eq (get_or ls k d).domain domain ≡ true
 
--- a first line, and those behind it that are of its domain
+-- a first line, and those after it that are of its domain
 first-run : (domain : List ℕ) (first : Line) (more : List Line) (n : ℕ) → first.domain ≡ domain → ((k : ℕ) (d : Line) → k < n → bytes_eq (get_or more k d).domain domain ≡ true) → AreOf domain (first ∷ take n more)
 first-run domain first more n e same zero d h = (bytes_eq-Decides first.domain domain).1 e
 first-run domain first more n e same (suc k) d h = let lt : k < length (take n more) = omega (arith, h) in ap (λ (l : Line). bytes_eq l.domain domain) (front d more n k lt) ∙ same k d (omega (arith, lt, take-few n more))

@@ -27,7 +27,8 @@ fn push_names<'a>(out: &mut Vec<Cut<'a>>, names: &'a [Named<'_>]) -> Result<(), 
 }
 
 fn push_lines<'a>(out: &mut Vec<Cut<'a>>, lines: &'a [Line<'_>]) -> Result<(), AllocError>
-    ensures { OnOk result (out.new.items ≡ out.old.items ++ flat_map (λ (l : ModelLine). l.names) lines.now) }
+    ensures { OnOk result (out.new.items ≡ out.old.items ++ flat_map
+        (λ (l : ModelLine). l.names) lines.now) }
 {
     for line in lines {
         push_names(out, &line.names)?;
@@ -74,7 +75,7 @@ fn levels_of(cuts: &[Cut<'_>]) -> usize
     most
 }
 
-/// How many nodes so many names have mostly, at one structure a name and some above these.
+/// How many nodes n names have mostly, at one structure a name and some above these.
 pub(crate) fn usual_nodes(names: usize) -> usize {
     names.saturating_mul(2).saturating_add(64)
 }
@@ -82,8 +83,10 @@ pub(crate) fn usual_nodes(names: usize) -> usize {
 /// The nodes of a domain, each before its parts, and their items.
 pub fn growth_of(alloc: Global, runs: &[Run<'_, '_>], domain: &[u8]) -> Result<Growth, AllocError>
     requires { AreRuns runs.now }
-    ensures items { IfOk result (λ growth. growth.items ≡ items_of (places_from (lines_in runs.now) domain.now)) }
-    ensures spots { IfOk result (λ growth. growth.spots.items ≡ map spot (places_from (lines_in runs.now) domain.now)) }
+    ensures items { IfOk result (λ growth. growth.items ≡ items_of
+        (places_from (lines_in runs.now) domain.now)) }
+    ensures spots { IfOk result (λ growth. growth.spots.items ≡ map spot
+        (places_from (lines_in runs.now) domain.now)) }
 {
     let cuts = names_of(alloc, runs, domain)?;
     let mut growth = Growth::with_capacity(alloc, usual_nodes(cuts.len()))?;

@@ -15,13 +15,15 @@ ghost use Rattle.object_model.specs.contracts.model.Model.{the_row as model_row}
 /// a data set, with at most 500 octets, exactly where the model does.
 pub fn rows_are_the_nodes()
     ensures count { (c : Config) → length (node_rows c) ≡ length (nodes c) }
-    ensures rows { (c : Config) (n : ℕ) (r : NodeRow) → slice_get (node_rows c) n ≡ Some r → IsRowOf c n r }
+    ensures rows { (c : Config) (n : ℕ) (r : NodeRow) → slice_get (node_rows c) n ≡ Some r
+        → IsRowOf c n r }
 {}
 
 /// The domain and the item of a node, as `domain_of` and `item_of` give them, are the name of that node and of no other, for
 /// every node of every configuration: `resolve` finds it by them.
 pub fn names_find_their_nodes()
-    ensures { (c : Config) (n : ℕ) → n < length (nodes c) → node_named (nodes c) (node_of (configured_model c) n).domain
+    ensures { (c : Config) (n : ℕ) → n < length (nodes c)
+        → node_named (nodes c) (node_of (configured_model c) n).domain
         (node_of (configured_model c) n).item ≡ Some n }
 {}
 

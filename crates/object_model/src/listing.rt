@@ -2,7 +2,8 @@
 
 ghost use Rattle.std.specs.Prelude.{◌≡◌, ◌++◌, ℕ, length, IfOk, OnOk};
 ghost use Rattle.sv_base.specs.declared.config.Config.{Config as ModelConfig};
-ghost use Rattle.bay_model.specs.NamedLines.{domains as domains_of, lines as lines_of, in_order as lines_in_order};
+ghost use Rattle.bay_model.specs.NamedLines.{domains as domains_of, lines as lines_of};
+ghost use Rattle.bay_model.specs.NamedLines.{in_order as lines_in_order};
 ghost use Rattle.object_model.specs.Listed.{IsListed, IsOneMore};
 ghost use Rattle.name_tree.specs.Nodes.{names_at, places_from};
 ghost use Rattle.object_model.specs.Runs.{AreRuns, lines_in};
@@ -35,7 +36,7 @@ pub struct Listing {
 impl Listing {
     ghost use Rattle.std.specs.Prelude.{◌≡◌, [], IfOk};
 
-    /// Nothing is listed, and there is room for so many nodes.
+    /// Nothing is listed, and there is capacity for n nodes.
     fn with_capacity(alloc: Global, nodes: usize) -> Result<Self, AllocError>
         ensures rows { IfOk result (λ l. l.rows.items ≡ []) }
         ensures names { IfOk result (λ l. l.names.items ≡ []) }
@@ -62,11 +63,15 @@ fn push_spots(
     spots: Vec<Spot>,
 ) -> Result<(), AllocError>
     ensures directories { listing.new.directories ≡ listing.old.directories }
-    ensures rows { OnOk result (listing.new.rows.items ≡ listing.old.rows.items ++ rows_with (length listing.old.rows.items) items.now
+    ensures rows { OnOk result (listing.new.rows.items ≡ listing.old.rows.items ++ rows_with
+        (length listing.old.rows.items) items.now
         (attrs_in_spots spots.items) spots.items) }
-    ensures names { OnOk result (listing.new.names.items ≡ listing.old.names.items ++ names_at number 0 spots.items) }
-    ensures stands { OnOk result (listing.new.stands.items ≡ listing.old.stands.items ++ stands_from (length listing.old.leaves.items) spots.items) }
-    ensures leaves { OnOk result (listing.new.leaves.items ≡ listing.old.leaves.items ++ owns spots.items) }
+    ensures names { OnOk result (listing.new.names.items ≡ listing.old.names.items
+        ++ names_at number 0 spots.items) }
+    ensures stands { OnOk result (listing.new.stands.items ≡ listing.old.stands.items ++ stands_from
+        (length listing.old.leaves.items) spots.items) }
+    ensures leaves { OnOk result (listing.new.leaves.items ≡ listing.old.leaves.items
+        ++ owns spots.items) }
 {
     push_stands(&mut listing.stands, &mut listing.leaves, &spots)?;
     let attrs = attrs_of(alloc, &spots)?;
@@ -82,7 +87,8 @@ fn push_domain(
     domain: &[u8],
 ) -> Result<(), AllocError>
     requires { AreRuns runs.now }
-    ensures { OnOk result (IsOneMore listing.old listing.new (places_from (lines_in runs.now) domain.now)) }
+    ensures { OnOk result (IsOneMore listing.old listing.new
+        (places_from (lines_in runs.now) domain.now)) }
 {
     let first = count(listing.rows.as_slice().len())?;
     let number = count(listing.directories.as_slice().len())?;

@@ -2,7 +2,9 @@
 
 ghost use Rattle.std.specs.Prelude.{◌≡◌, IfOk};
 ghost use Rattle.name_leaves.specs.Attributes.{attr_rows};
-ghost use Rattle.name_leaves.specs.References.{block_references as blocks_of, control_references as controls_of, attr_references as attrs_of};
+ghost use Rattle.name_leaves.specs.References.{block_references as blocks_of};
+ghost use Rattle.name_leaves.specs.References.{control_references as controls_of};
+ghost use Rattle.name_leaves.specs.References.{attr_references as attrs_of};
 ghost use Rattle.object_model.specs.Tables.{IsTables};
 
 use crate::tables::Tables;
@@ -43,15 +45,18 @@ impl std::marker::Model for Model {
     ghost view = { λ m. m.config };
 
     ghost use Rattle.std.specs.Prelude.{◌≡◌};
-    ghost use Rattle.name_leaves.specs.References.{block_references, control_references, attr_references};
+    ghost use Rattle.name_leaves.specs.References.{block_references, control_references};
+    ghost use Rattle.name_leaves.specs.References.{attr_references};
     ghost use Rattle.std.specs.List.{All};
     ghost use Rattle.sv_base.specs.declared.config.AttrDef.{AttrDef};
     ghost use Rattle.bay_rooms.specs.Slots.{IsSettable};
     ghost use Rattle.name_leaves.specs.Attributes.{attr_rows};
     ghost use Rattle.object_model.specs.Tables.{IsTables};
 
-    ghost invariant = { λ m. (m.blocks ≡ block_references m.config) × (m.controls ≡ control_references m.config)
-        × (m.attrs ≡ attr_references m.config) × IsTables m.config m.tables × All (λ (a : AttrDef). IsSettable a.kind) m.config.attrs
+    ghost invariant = { λ m. (m.blocks ≡ block_references m.config)
+        × (m.controls ≡ control_references m.config)
+        × (m.attrs ≡ attr_references m.config) × IsTables m.config m.tables
+        × All (λ (a : AttrDef). IsSettable a.kind) m.config.attrs
         × (m.rows.items ≡ attr_rows m.config) };
 }
 
@@ -111,7 +116,9 @@ impl Model {
     ghost use Rattle.name_leaves.specs.Seen.{role_seen};
     ghost use Rattle.name_leaves.specs.Leaves.{leaves, leaf_seen};
     ghost use Rattle.name_leaves.specs.Numbers.{number_in};
-    ghost use Rattle.name_leaves.specs.References.{block_references as blocks_of, control_references as controls_of, attr_references as attrs_of};
+    ghost use Rattle.name_leaves.specs.References.{block_references as blocks_of};
+    ghost use Rattle.name_leaves.specs.References.{control_references as controls_of};
+    ghost use Rattle.name_leaves.specs.References.{attr_references as attrs_of};
 
     /// The model of a configuration, whose attributes are of the types that an `attr` line may have.
     pub fn build(alloc: Global, config: Config) -> Result<Self, AllocError>
@@ -182,7 +189,8 @@ impl Model {
     /// The node of an item of a domain (ISO 9506-2, a domain-specific name); none exactly where it is not there. It takes no
     /// memory.
     pub fn resolve(&self, domain: &[u8], item: &[u8]) -> Option<NodeId>
-        ensures { option_map (λ n. n.0) result ≡ node_named (nodes_of self.now) domain.now item.now }
+        ensures { option_map (λ n. n.0) result ≡ node_named
+            (nodes_of self.now) domain.now item.now }
     {
         self.tables.resolve(domain, item).map(NodeId)
     }
@@ -227,7 +235,8 @@ impl Model {
     /// The leaves of a node, in the order of its type.
     pub fn leaves_of(&self, node: NodeId) -> &[Leaf]
         requires { node.0 < length (nodes_of self.now) }
-        ensures { map leaf_seen result.now ≡ leaves (node_of (configured_model self.now) node.0).tree }
+        ensures { map leaf_seen result.now ≡ leaves
+            (node_of (configured_model self.now) node.0).tree }
     {
         let stand = &self.tables.stands.as_slice()[node.0 as usize];
         between(self.tables.leaves.as_slice(), stand.first, stand.end)

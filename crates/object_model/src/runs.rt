@@ -32,7 +32,8 @@ pub fn is_same(one: &[u8], other: &[u8]) -> bool
 /// How many of the first lines are of a domain.
 fn run_len(lines: &[Line<'_>], domain: &[u8]) -> usize
     ensures within { result ≤ length lines.now }
-    ensures same { (k : ℕ) (d : ModelLine) → k < result → bytes_eq (get_or lines.now k d).domain domain.now ≡ true }
+    ensures same { (k : ℕ) (d : ModelLine) → k < result
+        → bytes_eq (get_or lines.now k d).domain domain.now ≡ true }
 {
     for (i, line) in lines.iter().enumerate() {
         if !is_same(line.domain, domain) {

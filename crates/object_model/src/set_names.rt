@@ -2,8 +2,10 @@
 
 ghost use Rattle.std.specs.Prelude.{◌≡◌};
 ghost use Rattle.std.specs.List.{list_all};
-ghost use Rattle.bay_model.specs.Definitions.{has_node as has_node_in, is_letter as is_letter_in, is_name as is_name_in};
-ghost use Rattle.bay_model.specs.Definitions.{is_name_octet as is_octet_in, is_set_name as is_set_name_in};
+ghost use Rattle.bay_model.specs.Definitions.{has_node as has_node_in, is_letter as is_letter_in};
+ghost use Rattle.bay_model.specs.Definitions.{is_name as is_name_in};
+ghost use Rattle.bay_model.specs.Definitions.{is_name_octet as is_octet_in};
+ghost use Rattle.bay_model.specs.Definitions.{is_set_name as is_set_name_in};
 ghost use Rattle.bay_model.specs.Named.{configured_model};
 
 use crate::Model;

@@ -56,7 +56,8 @@ fn set_row_of(
     directories: &[Directory],
     set: &SetDef,
 ) -> Result<SetRow, AllocError>
-    ensures { IfOk result (λ r. (c : ModelConfig) → Finds c domains.now directories.now → r ≡ set_row (set_defined (nodes_of c) set.now)) }
+    ensures { IfOk result (λ r. (c : ModelConfig) → Finds c domains.now directories.now
+        → r ≡ set_row (set_defined (nodes_of c) set.now)) }
 {
     let item = joined(alloc, set.ln.as_slice(), b'$', set.name.as_slice())?;
     let name = SetName {
@@ -75,7 +76,8 @@ fn set_rows(
     directories: &[Directory],
     sets: &[SetDef],
 ) -> Result<Vec<SetRow>, AllocError>
-    ensures { IfOk result (λ v. (c : ModelConfig) → Finds c domains.now directories.now → v.items ≡ map set_row (map (set_defined (nodes_of c)) sets.now)) }
+    ensures { IfOk result (λ v. (c : ModelConfig) → Finds c domains.now directories.now
+        → v.items ≡ map set_row (map (set_defined (nodes_of c)) sets.now)) }
 {
     let mut rows = Vec::with_capacity(alloc, sets.len())?;
     for set in sets {
@@ -113,7 +115,8 @@ impl Tables {
 
     /// The number of the node of an item of a domain; none exactly where it is not there.
     pub fn resolve(&self, domain: &[u8], item: &[u8]) -> Option<u32>
-        ensures { (c : ModelConfig) → IsTables c self.now → result ≡ node_named (nodes_of c) domain.now item.now }
+        ensures { (c : ModelConfig) → IsTables c self.now
+            → result ≡ node_named (nodes_of c) domain.now item.now }
     {
         number_of(&self.domains, &self.directories, domain, item)
     }
@@ -125,7 +128,8 @@ impl Tables {
         domain: &[u8],
         after: &[u8],
     ) -> Result<Vec<Octs>, AllocError>
-        ensures { IfOk result (λ v. (c : ModelConfig) → IsTables c self.now → v.items ≡ variables_after c domain.now after.now) }
+        ensures { IfOk result (λ v. (c : ModelConfig) → IsTables c self.now
+            → v.items ≡ variables_after c domain.now after.now) }
     {
         match self.domains.place_of(domain) {
             None => Ok(Vec::new(alloc)),

@@ -40,7 +40,7 @@ count_firsts as_ = length-map (map line_attr as_) (λ (a : Attribute). a.referen
 at_seam : (pre rest : List (List ℕ)) (r : List ℕ) → slice_get (pre ++ r ∷ rest) (length pre) ≡ Some r
 at_seam pre rest r = slice_get_read (pre ++ r ∷ rest) (length (pre ++ r ∷ rest)) (length pre) r refl (omega (arith, length-append pre (r ∷ rest))) (sym (get_or-append_seam pre r rest r))
 
--- those of the lines stand behind pre, and their twins behind mid
+-- those of the lines stand after pre, and their twins after mid
 referenced_from : (refs pre mid : List (List ℕ)) (x t : ℕ) (as_ : List AttrDef) → refs ≡ pre ++ (firsts as_ ++ (mid ++ twins as_)) → x ≡ length pre → t ≡ length pre + (length as_ + length mid) → AreReferenced refs x t as_
 referenced_from refs pre mid x t [] is n m = tt
 referenced_from refs pre mid x t (a ∷ as_) is n m = (own, twin, next (λ pre mid x t. referenced_from refs pre mid x t as_) (is_setting a) refl)
@@ -89,6 +89,6 @@ referenced c refs t is n =
     referenced_from refs [] (references_of gens) 0 t c.attrs (is ∙ (map-append ref (map line_attr c.attrs) (gens ++ ends) ∙ ap (λ z. firsts c.attrs ++ z) (map-append ref gens ends))) refl
     (omega (arith, n, length-map gens ref, count_generated c.controls))
 
--- the attribute of the line at a place, and those of the lines behind it
+-- the attribute of the line at a place, and those of the lines after it
 pub referenced_at : (refs : List (List ℕ)) (x t i : ℕ) (as_ : List AttrDef) (a : AttrDef) → i < length as_ → a ≡ get_or as_ i a → AreReferenced refs x t (drop i as_) → AreReferenced refs x t (a ∷ drop (i + 1) as_)
 referenced_at refs x t i as_ a h is are = subst (AreReferenced refs x t) (drop_more as_ i a h ∙ ap (λ z. z ∷ drop (i + 1) as_) (sym is)) are

@@ -7,7 +7,8 @@ ghost use Rattle.bay_model.specs.Lookups.{reference_of};
 ghost use Rattle.bay_model.specs.Generated.{selection, within};
 ghost use Rattle.bay_model.specs.NamedLines.{is_setting as is_setting_line, path_item};
 ghost use Rattle.name_leaves.specs.References.{attr_references};
-ghost use Rattle.name_leaves.specs.Attributes.{attr_at, attr_rows, line_attr, twin_attr, parameter_attr, control_attrs, line_flags, no_flags};
+ghost use Rattle.name_leaves.specs.Attributes.{attr_at, attr_rows, line_attr, twin_attr};
+ghost use Rattle.name_leaves.specs.Attributes.{parameter_attr, control_attrs, line_flags, no_flags};
 ghost use Rattle.name_leaves.specs.Attributes.{references_of, rows_of};
 
 use crate::references::write_reference;
@@ -22,7 +23,7 @@ use sv_base::{AttrDef, Config, CtlDef, CtlParameter};
 pub struct Attributes {
     pub references: Index,
     pub rows: Vec<AttrRow>,
-    /// The room in which a reference is made before it is added.
+    /// The memory in which a reference is made before it is added.
     text: Vec<u8>,
 }
 
@@ -39,8 +40,10 @@ fn flags_of(attr: &AttrDef) -> Flags
 
 /// Adds the attribute of a line, under a functional constraint.
 fn push_at(out: &mut Attributes, attr: &AttrDef, fc: &[u8]) -> Result<(), AllocError>
-    ensures references { OnOk result (out.new.references ≡ out.old.references ++ references_of (attr_at attr.now fc.now ∷ [])) }
-    ensures rows { OnOk result (out.new.rows.items ≡ out.old.rows.items ++ rows_of (attr_at attr.now fc.now ∷ [])) }
+    ensures references { OnOk result (out.new.references ≡ out.old.references ++ references_of
+        (attr_at attr.now fc.now ∷ [])) }
+    ensures rows { OnOk result (out.new.rows.items ≡ out.old.rows.items ++ rows_of
+        (attr_at attr.now fc.now ∷ [])) }
 {
     let (domain, ln, path) = (&attr.domain, &attr.ln, &attr.path);
     let text = &mut out.text;
@@ -54,8 +57,10 @@ fn push_at(out: &mut Attributes, attr: &AttrDef, fc: &[u8]) -> Result<(), AllocE
 }
 
 fn push_lines(out: &mut Attributes, attrs: &[AttrDef]) -> Result<(), AllocError>
-    ensures references { OnOk result (out.new.references ≡ out.old.references ++ references_of (map line_attr attrs.now)) }
-    ensures rows { OnOk result (out.new.rows.items ≡ out.old.rows.items ++ rows_of (map line_attr attrs.now)) }
+    ensures references { OnOk result (out.new.references ≡ out.old.references ++ references_of
+        (map line_attr attrs.now)) }
+    ensures rows { OnOk result (out.new.rows.items ≡ out.old.rows.items ++ rows_of
+        (map line_attr attrs.now)) }
 {
     for attr in attrs {
         push_at(out, attr, attr.fc.as_slice())?;
@@ -65,7 +70,8 @@ fn push_lines(out: &mut Attributes, attrs: &[AttrDef]) -> Result<(), AllocError>
 
 /// Makes the text the reference of a CF attribute of a control.
 fn write_parameter(text: &mut Vec<u8>, control: &CtlDef, name: &[u8]) -> Result<(), AllocError>
-    ensures { OnOk result (text.new.items ≡ reference_of control.now.domain (within (path_item control.now.ln (codes "CF") control.now.path) name.now)) }
+    ensures { OnOk result (text.new.items ≡ reference_of control.now.domain
+        (within (path_item control.now.ln (codes "CF") control.now.path) name.now)) }
 {
     let (domain, ln, path) = (&control.domain, &control.ln, &control.path);
     write_reference(
@@ -86,9 +92,12 @@ fn push_parameter(
     control: &CtlDef,
     parameter: CtlParameter,
 ) -> Result<(), AllocError>
-    ensures references { OnOk result (out.new.references ≡ out.old.references ++ reference_of control.now.domain
-        (within (path_item control.now.ln (codes "CF") control.now.path) (parameter_name parameter)) ∷ []) }
-    ensures rows { OnOk result (out.new.rows.items ≡ out.old.rows.items ++ record { kind = parameter_kind parameter; flags = no_flags } ∷ []) }
+    ensures references { OnOk result (out.new.references ≡ out.old.references
+        ++ reference_of control.now.domain
+        (within (path_item control.now.ln (codes "CF") control.now.path)
+        (parameter_name parameter)) ∷ []) }
+    ensures rows { OnOk result (out.new.rows.items ≡ out.old.rows.items
+        ++ record { kind = parameter_kind parameter; flags = no_flags } ∷ []) }
 {
     write_parameter(&mut out.text, control, parameter.name())?;
     out.references.push(&out.text)?;
@@ -105,8 +114,10 @@ fn push_parameter(
 
 /// Adds the CF attributes that a control has besides ctlModel.
 fn push_selection(out: &mut Attributes, control: &CtlDef) -> Result<(), AllocError>
-    ensures references { OnOk result (out.new.references ≡ out.old.references ++ references_of (map (parameter_attr control.now) (selection control.now))) }
-    ensures rows { OnOk result (out.new.rows.items ≡ out.old.rows.items ++ rows_of (map (parameter_attr control.now) (selection control.now))) }
+    ensures references { OnOk result (out.new.references ≡ out.old.references ++ references_of
+        (map (parameter_attr control.now) (selection control.now))) }
+    ensures rows { OnOk result (out.new.rows.items ≡ out.old.rows.items ++ rows_of
+        (map (parameter_attr control.now) (selection control.now))) }
 {
     push_parameter(out, control, CtlParameter::SboTimeout)?;
     push_parameter(out, control, CtlParameter::SboClass)?;
@@ -114,8 +125,10 @@ fn push_selection(out: &mut Attributes, control: &CtlDef) -> Result<(), AllocErr
 }
 
 fn push_parameters(out: &mut Attributes, control: &CtlDef) -> Result<(), AllocError>
-    ensures references { OnOk result (out.new.references ≡ out.old.references ++ references_of (control_attrs control.now)) }
-    ensures rows { OnOk result (out.new.rows.items ≡ out.old.rows.items ++ rows_of (control_attrs control.now)) }
+    ensures references { OnOk result (out.new.references ≡ out.old.references ++ references_of
+        (control_attrs control.now)) }
+    ensures rows { OnOk result (out.new.rows.items ≡ out.old.rows.items ++ rows_of
+        (control_attrs control.now)) }
 {
     push_parameter(out, control, CtlParameter::CtlModel)?;
     if is_selected(control) {
@@ -125,8 +138,10 @@ fn push_parameters(out: &mut Attributes, control: &CtlDef) -> Result<(), AllocEr
 }
 
 fn push_generated(out: &mut Attributes, controls: &[CtlDef]) -> Result<(), AllocError>
-    ensures references { OnOk result (out.new.references ≡ out.old.references ++ references_of (flat_map control_attrs controls.now)) }
-    ensures rows { OnOk result (out.new.rows.items ≡ out.old.rows.items ++ rows_of (flat_map control_attrs controls.now)) }
+    ensures references { OnOk result (out.new.references ≡ out.old.references ++ references_of
+        (flat_map control_attrs controls.now)) }
+    ensures rows { OnOk result (out.new.rows.items ≡ out.old.rows.items ++ rows_of
+        (flat_map control_attrs controls.now)) }
 {
     for control in controls {
         push_parameters(out, control)?;
@@ -135,8 +150,10 @@ fn push_generated(out: &mut Attributes, controls: &[CtlDef]) -> Result<(), Alloc
 }
 
 fn push_twin(out: &mut Attributes, attr: &AttrDef) -> Result<(), AllocError>
-    ensures references { OnOk result (out.new.references ≡ out.old.references ++ references_of (map twin_attr (filter is_setting_line (attr.now ∷ [])))) }
-    ensures rows { OnOk result (out.new.rows.items ≡ out.old.rows.items ++ rows_of (map twin_attr (filter is_setting_line (attr.now ∷ [])))) }
+    ensures references { OnOk result (out.new.references ≡ out.old.references ++ references_of
+        (map twin_attr (filter is_setting_line (attr.now ∷ [])))) }
+    ensures rows { OnOk result (out.new.rows.items ≡ out.old.rows.items ++ rows_of
+        (map twin_attr (filter is_setting_line (attr.now ∷ [])))) }
 {
     if is_setting(attr) {
         push_at(out, attr, b"SE")?;
@@ -145,8 +162,10 @@ fn push_twin(out: &mut Attributes, attr: &AttrDef) -> Result<(), AllocError>
 }
 
 fn push_twins(out: &mut Attributes, attrs: &[AttrDef]) -> Result<(), AllocError>
-    ensures references { OnOk result (out.new.references ≡ out.old.references ++ references_of (map twin_attr (filter is_setting_line attrs.now))) }
-    ensures rows { OnOk result (out.new.rows.items ≡ out.old.rows.items ++ rows_of (map twin_attr (filter is_setting_line attrs.now))) }
+    ensures references { OnOk result (out.new.references ≡ out.old.references ++ references_of
+        (map twin_attr (filter is_setting_line attrs.now))) }
+    ensures rows { OnOk result (out.new.rows.items ≡ out.old.rows.items ++ rows_of
+        (map twin_attr (filter is_setting_line attrs.now))) }
 {
     for attr in attrs {
         push_twin(out, attr)?;
@@ -155,7 +174,8 @@ fn push_twins(out: &mut Attributes, attrs: &[AttrDef]) -> Result<(), AllocError>
 }
 
 fn push_all(out: &mut Attributes, config: &Config) -> Result<(), AllocError>
-    ensures references { OnOk result (out.new.references ≡ out.old.references ++ attr_references config.now) }
+    ensures references { OnOk result (out.new.references ≡ out.old.references
+        ++ attr_references config.now) }
     ensures rows { OnOk result (out.new.rows.items ≡ out.old.rows.items ++ attr_rows config.now) }
 {
     push_lines(out, config.attrs.as_slice())?;

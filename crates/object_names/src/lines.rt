@@ -1,13 +1,17 @@
 //! The lines of a configuration with the items that each names, in the order of their numbers.
 
-ghost use Rattle.std.specs.Prelude.{◌≡◌, ◌∷◌, ◌++◌, ◌+◌, [], map, codes, length, IfOk, OnOk, ℕ, Some, slice_get, true, List, position, unwrap_or};
+ghost use Rattle.std.specs.Prelude.{◌≡◌, ◌∷◌, ◌++◌, ◌+◌, [], map, codes, length, IfOk, OnOk, ℕ};
+ghost use Rattle.std.specs.Prelude.{Some, slice_get, true, List, position, unwrap_or};
 ghost use Rattle.std.specs.Prelude.{flat_map, if◌then◌else◌};
 ghost use Rattle.std.specs.List.{list_any};
 ghost use Rattle.std.specs.Str.{bytes_eq};
 ghost use Rattle.bay_model.specs.Configured.{domains_after, with_domain};
-ghost use Rattle.bay_model.specs.Generated.{block_names, parameters, parameter_names, control_names, end_named};
-ghost use Rattle.bay_model.specs.NamedLines.{attribute_line, attribute_lines, block_line, block_lines, control_line, control_lines, node_line};
-ghost use Rattle.bay_model.specs.NamedLines.{group_line, attribute_names, domains as domains_of, domain_number, lines as lines_of, in_order};
+ghost use Rattle.bay_model.specs.Generated.{block_names, parameters, parameter_names};
+ghost use Rattle.bay_model.specs.Generated.{control_names, end_named};
+ghost use Rattle.bay_model.specs.NamedLines.{attribute_line, attribute_lines, block_line};
+ghost use Rattle.bay_model.specs.NamedLines.{block_lines, control_line, control_lines, node_line};
+ghost use Rattle.bay_model.specs.NamedLines.{group_line, attribute_names, domains as domains_of};
+ghost use Rattle.bay_model.specs.NamedLines.{domain_number, lines as lines_of, in_order};
 ghost use Rattle.bay_model.specs.NamedLines.{path_item, is_setting as is_setting_line};
 ghost use Rattle.bay_model.specs.Model.{attribute};
 ghost use Rattle.bay_model.specs.Lookups.{reference_of};
@@ -52,7 +56,11 @@ fn push_line<'a>(
     domain: &'a [u8],
     names: Few<Named<'a>>,
 ) -> Result<(), AllocError>
-    ensures { OnOk result (out.new.items ≡ out.old.items ++ record { line = number; domain = domain.now; names = names.entry } ∷ []) }
+    ensures { OnOk result (out.new.items ≡ out.old.items ++ record {
+      line = number;
+      domain = domain.now;
+      names = names.entry;
+    } ∷ []) }
 {
     out.push(Line {
         number,
@@ -71,7 +79,9 @@ fn push_node<'a>(alloc: Global, out: &mut Vec<Line<'a>>, node: &'a LnDef) -> Res
 
 /// The item of the reference of an attribute of a domain, `LD/LN$FC$PATH`.
 fn item_of<'a>(references: &'a Index, number: u32, domain: &[u8]) -> &'a [u8]
-    ensures { (item : List ℕ) → slice_get references.now number ≡ Some (reference_of domain.now item) → result.now ≡ item }
+    ensures { (item : List ℕ)
+        → slice_get references.now number ≡ Some (reference_of domain.now item)
+        → result.now ≡ item }
 {
     let Some(reference) = references.get(number as usize) else {
         return &[];
@@ -103,7 +113,8 @@ fn attr_names<'a>(
     twin: u32,
 ) -> Result<Few<Named<'a>>, AllocError>
     requires own { HasReference references.now number attr.now attr.now.fc }
-    requires twin { is_setting_line attr.now ≡ true → HasReference references.now twin attr.now (codes "SE") }
+    requires twin { is_setting_line attr.now ≡ true
+        → HasReference references.now twin attr.now (codes "SE") }
     ensures { IfOk result (λ names. names ≡ attribute_names number twin attr.now) }
 {
     let mut names = Few::one(end_at(references, attr, number)?);
@@ -122,8 +133,10 @@ fn push_attr<'a>(
     twin: u32,
 ) -> Result<(), AllocError>
     requires own { HasReference references.now number attr.now attr.now.fc }
-    requires twin { is_setting_line attr.now ≡ true → HasReference references.now twin attr.now (codes "SE") }
-    ensures { OnOk result (out.new.items ≡ out.old.items ++ attribute_line number twin attr.now ∷ []) }
+    requires twin { is_setting_line attr.now ≡ true
+        → HasReference references.now twin attr.now (codes "SE") }
+    ensures { OnOk result (out.new.items ≡ out.old.items
+        ++ attribute_line number twin attr.now ∷ []) }
 {
     let names = attr_names(alloc, references, attr, number, twin)?;
     push_line(out, attr.line, attr.domain.as_slice(), names)
@@ -135,7 +148,8 @@ fn push_block_names(
     block: &BlockDef,
     number: u32,
 ) -> Result<(), AllocError>
-    ensures { OnOk result (out.new.items ≡ out.old.items ++ block_names number (path_item block.now.ln (codes "BR") block.now.name)) }
+    ensures { OnOk result (out.new.items ≡ out.old.items ++ block_names number
+        (path_item block.now.ln (codes "BR") block.now.name)) }
 {
     let item = item_at(alloc, block.ln.as_slice(), b"BR", block.name.as_slice())?;
     push_block(alloc, out, number, &item)
@@ -161,7 +175,8 @@ fn push_group<'a>(
     group: &'a SgDef,
     domain_number: u32,
 ) -> Result<(), AllocError>
-    ensures { OnOk result (out.new.items ≡ out.old.items ++ group_line domain_number group.now ∷ []) }
+    ensures { OnOk result (out.new.items ≡ out.old.items
+        ++ group_line domain_number group.now ∷ []) }
 {
     let mut names = Vec::new(alloc);
     push_settings(alloc, &mut names, domain_number)?;
@@ -174,7 +189,8 @@ fn push_control_names(
     control: &CtlDef,
     number: u32,
 ) -> Result<(), AllocError>
-    ensures { OnOk result (out.new.items ≡ out.old.items ++ control_names number control.now (path_item control.now.ln (codes "CO") control.now.path)) }
+    ensures { OnOk result (out.new.items ≡ out.old.items ++ control_names number control.now
+        (path_item control.now.ln (codes "CO") control.now.path)) }
 {
     let item = item_at(alloc, control.ln.as_slice(), b"CO", control.path.as_slice())?;
     push_control(alloc, out, number, control, &item)
@@ -186,7 +202,8 @@ fn push_parameter_names(
     control: &CtlDef,
     first: u32,
 ) -> Result<(), AllocError>
-    ensures { OnOk result (out.new.items ≡ out.old.items ++ parameter_names first (path_item control.now.ln (codes "CF") control.now.path)
+    ensures { OnOk result (out.new.items ≡ out.old.items ++ parameter_names first
+        (path_item control.now.ln (codes "CF") control.now.path)
         (parameters control.now)) }
 {
     let item = item_at(alloc, control.ln.as_slice(), b"CF", control.path.as_slice())?;
@@ -200,7 +217,8 @@ fn push_control_line<'a>(
     number: u32,
     first: u32,
 ) -> Result<(), AllocError>
-    ensures { OnOk result (out.new.items ≡ out.old.items ++ control_line number first control.now ∷ []) }
+    ensures { OnOk result (out.new.items ≡ out.old.items
+        ++ control_line number first control.now ∷ []) }
 {
     let mut names = Vec::new(alloc);
     push_control_names(alloc, &mut names, control, number)?;
@@ -244,7 +262,8 @@ fn push_attrs<'a>(
     first_twin: u32,
 ) -> Result<(), AllocError>
     requires { AreReferenced references.now 0 first_twin attrs.now }
-    ensures { OnOk result (out.new.items ≡ out.old.items ++ attribute_lines 0 first_twin attrs.now) }
+    ensures { OnOk result (out.new.items ≡ out.old.items
+        ++ attribute_lines 0 first_twin attrs.now) }
 {
     let mut number = 0;
     let mut twin = first_twin;
@@ -333,7 +352,9 @@ fn push_groups<'a>(
     groups: &'a [SgDef],
     domains: &Index,
 ) -> Result<(), AllocError>
-    ensures { OnOk result (out.new.items ≡ out.old.items ++ map (λ g. group_line (unwrap_or (position (bytes_eq g.domain) domains.now) 0) g) groups.now) }
+    ensures { OnOk result (out.new.items ≡ out.old.items
+        ++ map (λ g. group_line (unwrap_or (position (bytes_eq g.domain) domains.now) 0)
+        g) groups.now) }
 {
     for group in groups {
         let number = domains.place_of(group.domain.as_slice()).unwrap_or(0);

@@ -3,8 +3,11 @@
 ghost use Rattle.std.specs.Prelude.{◌≡◌, ◌∷◌, ◌++◌, [], codes, map, IfOk, OnOk};
 ghost use Rattle.sv_base.specs.Parameters.{parameter_name, parameter_kind};
 ghost use Rattle.sv_base.specs.CtlServices.{service_name, service_of};
-ghost use Rattle.bay_model.specs.Generated.{within, end_named, structure_named, block_names, setting_named, setting_names, part_named, command_names};
-ghost use Rattle.bay_model.specs.Generated.{sbo_names, sbow_names, cancel_names, control_names, parameters, selection, parameter_names};
+ghost use Rattle.bay_model.specs.Generated.{within, end_named, structure_named, block_names};
+ghost use Rattle.bay_model.specs.Generated.{setting_named, setting_names, part_named};
+ghost use Rattle.bay_model.specs.Generated.{command_names};
+ghost use Rattle.bay_model.specs.Generated.{sbo_names, sbow_names, cancel_names, control_names};
+ghost use Rattle.bay_model.specs.Generated.{parameters, selection, parameter_names};
 ghost use Rattle.bay_model.specs.Model.{attribute, withheld};
 ghost use Rattle.name_leaves.specs.Seen.{role_seen};
 
@@ -97,7 +100,8 @@ fn push_within(
     what: What,
     kind: TypeOf,
 ) -> Result<(), AllocError>
-    ensures { OnOk result (out.new.items ≡ out.old.items ++ record { item = within item.now name.now; role = role_seen what; kind = kind } ∷ []) }
+    ensures { OnOk result (out.new.items ≡ out.old.items
+        ++ record { item = within item.now name.now; role = role_seen what; kind = kind } ∷ []) }
 {
     let item = Item::made(Octs::from_vec(joined(alloc, item, b'$', name)?));
     out.push(Named { item, what, kind })?;
@@ -184,7 +188,8 @@ fn push_part(
     item: &[u8],
     part: CallPart,
 ) -> Result<(), AllocError>
-    ensures { OnOk result (out.new.items ≡ out.old.items ++ part_named kind.now item.now part ∷ []) }
+    ensures { OnOk result (out.new.items ≡ out.old.items
+        ++ part_named kind.now item.now part ∷ []) }
 {
     let own = part.kind(kind)?;
     push_within(alloc, out, item, part.name(), What::Withheld, own)
@@ -197,7 +202,8 @@ fn push_parts(
     item: &[u8],
     parts: &[CallPart],
 ) -> Result<(), AllocError>
-    ensures { OnOk result (out.new.items ≡ out.old.items ++ map (part_named kind.now item.now) parts.now) }
+    ensures { OnOk result (out.new.items ≡ out.old.items
+        ++ map (part_named kind.now item.now) parts.now) }
 {
     for part in parts {
         push_part(alloc, out, kind, item, *part)?;
@@ -214,7 +220,8 @@ fn push_command(
     item: &[u8],
     call: Call,
 ) -> Result<(), AllocError>
-    ensures { OnOk result (out.new.items ≡ out.old.items ++ command_names number kind.now item.now call) }
+    ensures { OnOk result (out.new.items ≡ out.old.items
+        ++ command_names number kind.now item.now call) }
 {
     let made = Item::made(Octs::from_vec(Vec::from_slice(alloc, item)?));
     out.push(structure(alloc, made, What::Calling(number, call))?)?;
@@ -256,7 +263,8 @@ fn push_call(
     item: &[u8],
     call: Call,
 ) -> Result<(), AllocError>
-    ensures { OnOk result (out.new.items ≡ out.old.items ++ command_names number control.now.kind (within item.now (service_name (service_of call))) call) }
+    ensures { OnOk result (out.new.items ≡ out.old.items ++ command_names number control.now.kind
+        (within item.now (service_name (service_of call))) call) }
 {
     let item = joined(alloc, item, b'$', call.service().name())?;
     push_command(alloc, out, number, &control.kind, &item, call)
@@ -270,7 +278,8 @@ fn push_sbow(
     control: &CtlDef,
     item: &[u8],
 ) -> Result<(), AllocError>
-    ensures { OnOk result (out.new.items ≡ out.old.items ++ sbow_names number control.now item.now) }
+    ensures { OnOk result (out.new.items ≡ out.old.items
+        ++ sbow_names number control.now item.now) }
 {
     if control.model == ctl_models::SBO_ENHANCED {
         push_call(alloc, out, number, control, item, Call::Select)?;
@@ -286,7 +295,8 @@ fn push_cancel(
     control: &CtlDef,
     item: &[u8],
 ) -> Result<(), AllocError>
-    ensures { OnOk result (out.new.items ≡ out.old.items ++ cancel_names number control.now item.now) }
+    ensures { OnOk result (out.new.items ≡ out.old.items
+        ++ cancel_names number control.now item.now) }
 {
     if is_selected(control) {
         push_call(alloc, out, number, control, item, Call::Cancel)?;
@@ -302,7 +312,8 @@ pub fn push_control(
     control: &CtlDef,
     item: &[u8],
 ) -> Result<(), AllocError>
-    ensures { OnOk result (out.new.items ≡ out.old.items ++ control_names number control.now item.now) }
+    ensures { OnOk result (out.new.items ≡ out.old.items
+        ++ control_names number control.now item.now) }
 {
     push_sbo(alloc, out, number, control, item)?;
     push_sbow(alloc, out, number, control, item)?;
@@ -319,7 +330,8 @@ fn push_parameter(
     item: &[u8],
     parameter: CtlParameter,
 ) -> Result<(), AllocError>
-    ensures { OnOk result (out.new.items ≡ out.old.items ++ end_named (within item.now (parameter_name parameter)) (attribute number)
+    ensures { OnOk result (out.new.items ≡ out.old.items ++ end_named
+        (within item.now (parameter_name parameter)) (attribute number)
         (parameter_kind parameter) ∷ []) }
 {
     let what = What::Attribute(number);
@@ -333,7 +345,8 @@ fn push_selection(
     control: &CtlDef,
     item: &[u8],
 ) -> Result<(), AllocError>
-    ensures { OnOk result (out.new.items ≡ out.old.items ++ parameter_names first item.now (selection control.now)) }
+    ensures { OnOk result (out.new.items ≡ out.old.items ++ parameter_names first item.now
+        (selection control.now)) }
 {
     let next = plus(first, 1)?;
     push_parameter(alloc, out, first, item, CtlParameter::SboTimeout)?;
@@ -349,7 +362,8 @@ pub fn push_parameters(
     control: &CtlDef,
     item: &[u8],
 ) -> Result<(), AllocError>
-    ensures { OnOk result (out.new.items ≡ out.old.items ++ parameter_names first item.now (parameters control.now)) }
+    ensures { OnOk result (out.new.items ≡ out.old.items ++ parameter_names first item.now
+        (parameters control.now)) }
 {
     push_parameter(alloc, out, first, item, CtlParameter::CtlModel)?;
     if is_selected(control) {

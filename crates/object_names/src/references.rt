@@ -4,14 +4,15 @@ ghost use Rattle.std.specs.Prelude.{◌≡◌, ◌∷◌, ◌++◌, [], IfOk, On
 ghost use Rattle.bay_model.specs.Lookups.{reference_of};
 ghost use Rattle.bay_model.specs.Configured.{block_defined, control_defined};
 ghost use Rattle.bay_model.specs.NamedLines.{path_item};
-ghost use Rattle.name_leaves.specs.References.{block_references as blocks_of, control_references as controls_of};
+ghost use Rattle.name_leaves.specs.References.{block_references as blocks_of};
+ghost use Rattle.name_leaves.specs.References.{control_references as controls_of};
 
 use name_leaves::extend_item;
 use octet_rows::Index;
 use std::alloc::{AllocError, Global};
 use sv_base::{BlockDef, Config, CtlDef};
 
-/// Makes a text `LD/LN$FC$PATH`, in the room that it has.
+/// Makes a text `LD/LN$FC$PATH`, in the memory that it has.
 pub fn write_reference(
     text: &mut Vec<u8>,
     domain: &[u8],
@@ -19,7 +20,8 @@ pub fn write_reference(
     fc: &[u8],
     path: &[u8],
 ) -> Result<(), AllocError>
-    ensures { OnOk result (text.new.items ≡ reference_of domain.now (path_item ln.now fc.now path.now)) }
+    ensures { OnOk result (text.new.items ≡ reference_of domain.now
+        (path_item ln.now fc.now path.now)) }
 {
     text.clear();
     text.extend_from_slice(domain)?;

@@ -11,7 +11,7 @@ abbrev pub latest : List Entry → ℕ → Option ℕ
 latest [] number = None
 latest (entry ∷ entries) number = option_or (latest entries number) (if nat_eq entry.number number then Some entry.place else None)
 
--- the place that a chain gives a number, in so many steps
+-- the place that a chain gives a number, in n steps
 abbrev pub walk : ℕ → List Entry → ℕ → ℕ → Option ℕ
 walk zero entries at number = None
 walk (suc steps) entries zero number = None
@@ -19,14 +19,14 @@ walk (suc steps) entries (suc i) number =
     if nat_eq (slice_index_or entries i no_entry).number number then Some (slice_index_or entries i no_entry).place
     else walk steps entries (slice_index_or entries i no_entry).before number
 
--- where the chain of a number has its head among so many: all numbers below 2 ^ 64 are shared out evenly, in their order
+-- where the chain of a number has its head among that many: all numbers below 2 ^ 64 are shared out evenly, in their order
 abbrev pub slot : ℕ → ℕ → ℕ
 slot heads number = number * heads / 2 ^ 64
 
 abbrev pub head : List ℕ → ℕ → ℕ
 head heads number = slice_index heads (slot (length heads) number)
 
--- each entry comes behind the one before it in its chain
+-- each entry comes after the one before it in its chain
 abbrev pub AreBack : List Entry → Type 0
 AreBack entries = (i : ℕ) → i < length entries → (slice_index_or entries i no_entry).before ≤ i
 

@@ -49,6 +49,6 @@ abbrev pub noted_where : Option ℕ → (ℕ → Option ℕ) → List ℕ → (�
 noted_where None first further next others hash place = (others ≡ further) × ((q : ℕ) → next q ≡ (if nat_eq hash q then Some place else first q))
 noted_where (Some other) first further next others hash place = (others ≡ further ++ place ∷ []) × ((q : ℕ) → next q ≡ first q)
 
--- the place of one more row of this number is noted: as its first place where the number has none, else behind the further places
+-- the place of one more row of this number is noted: as its first place where the number has none, else after the further places
 abbrev pub IsNoted : (ℕ → Option ℕ) → List ℕ → (ℕ → Option ℕ) → List ℕ → ℕ → ℕ → Type 0
 IsNoted first further next others hash place = noted_where (first hash) first further next others hash place

@@ -9,7 +9,7 @@ mixed_with before word = (bit_xor (rotate_left w64 before 5) word * 587178100656
 abbrev pub word_with : ℕ → ℕ → ℕ
 word_with word octet = bit_xor (rotate_left w64 word 8) octet
 
--- whole words are mixed to this, and no octet is behind them
+-- whole words are mixed to this, and no octet is after them
 abbrev pub mixed_to : ℕ → RowHash
 mixed_to mixed = record { mixed = mixed; word = 0; octets = 0 }
 

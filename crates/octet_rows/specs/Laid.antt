@@ -1,4 +1,4 @@
--- Octet rows that lie one behind the other.
+-- Octet rows that lie one after the other.
 use Rattle.std.specs.Prelude.{ℕ, ◌≤◌, List, length, map, All, slice_range}
 use Rattle.octet_rows.specs.declared.rows.Extent.{Extent}
 

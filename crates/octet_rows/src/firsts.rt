@@ -1,6 +1,7 @@
 //! Numbers, each with a place, found by chains.
 
-ghost use Rattle.std.specs.Prelude.{◌≡◌, ◌<◌, ℕ, length, nat_eq, Some, None, IfOk, OnOk, OnErr, if◌then◌else◌};
+ghost use Rattle.std.specs.Prelude.{◌≡◌, ◌<◌, ℕ, length, nat_eq, Some, None, IfOk, OnOk, OnErr};
+ghost use Rattle.std.specs.Prelude.{if◌then◌else◌};
 ghost use Rattle.std.specs.Prelude.{◌≤◌, ◌^◌, ◌&&◌, [], is_none};
 ghost use Rattle.octet_rows.specs.Chains.{slot, head, walk, latest, AreBack, AreChained};
 
@@ -22,7 +23,7 @@ pub struct Firsts {
     entries: Vec<Entry>,
 }
 
-/// Where the chain of a number has its head among so many heads.
+/// Where the chain of a number has its head among n heads.
 fn slot_of(number: u64, heads: usize) -> usize
     requires { 0 < heads }
     ensures value { result ≡ slot heads number }
@@ -86,7 +87,7 @@ impl Firsts {
         }
     }
 
-    /// There is none, and room for so many.
+    /// There is none, and memory for that many.
     pub fn with_capacity(alloc: Global, numbers: usize) -> Result<Self, AllocError>
         ensures chained { IfOk result (λ f. AreChained f.heads.items f.entries.items) }
         ensures none { IfOk result (λ f. (q : ℕ) → latest f.entries.items q ≡ None) }
@@ -148,8 +149,10 @@ impl Firsts {
         ensures chained { AreChained self.new.heads.items self.new.entries.items }
         ensures told { IfOk result (λ there. there ≡ latest self.old.entries.items number) }
         ensures ok { IfOk result (λ there. (q : ℕ) → latest self.new.entries.items q ≡
-            (if is_none there && nat_eq number q then Some place else latest self.old.entries.items q)) }
-        ensures err { OnErr result ((q : ℕ) → latest self.new.entries.items q ≡ latest self.old.entries.items q) }
+            (if is_none there && nat_eq number q then Some place
+            else latest self.old.entries.items q)) }
+        ensures err { OnErr result ((q : ℕ)
+            → latest self.new.entries.items q ≡ latest self.old.entries.items q) }
     {
         let len = self.entries.len();
         if len > 0xffff_fffe {

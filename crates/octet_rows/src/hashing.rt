@@ -1,7 +1,8 @@
 //! A number for each row of octets, the same for the same row.
 
 ghost use Rattle.std.specs.Prelude.{◌≡◌, ◌<◌, length, fold};
-ghost use Rattle.octet_rows.specs.Hashing.{mixed_with, mixed_to, word_with, nothing, gathered, number_of, hash_at};
+ghost use Rattle.octet_rows.specs.Hashing.{mixed_with, mixed_to, word_with, nothing, gathered};
+ghost use Rattle.octet_rows.specs.Hashing.{number_of, hash_at};
 
 /// The octets of a row that is gone over from its front, gathered: eight at a time are mixed into what stands before them. Whoever picks
 /// the octets can make two rows have one number.
@@ -60,17 +61,18 @@ impl RowHash {
     }
 }
 
-/// A word with one octet more behind it.
+/// A word with one octet more after it.
 fn joined(word: u64, octet: u8) -> u64
     ensures { result ≡ word_with word octet }
 {
     word.rotate_left(8) ^ u64::from(octet)
 }
 
-/// What the words of eight octets at the front are mixed to, and the octets behind them.
+/// What the words of eight octets at the front are mixed to, and the octets after them.
 fn mixed_front(row: &[u8]) -> (u64, &[u8])
     ensures few { length result.1.now < 8 }
-    ensures gathered { fold gathered nothing row.now ≡ fold gathered (mixed_to result.0) result.1.now }
+    ensures gathered { fold gathered nothing row.now ≡ fold gathered
+        (mixed_to result.0) result.1.now }
 {
     let mut mixed = 0;
     let mut rest = row;

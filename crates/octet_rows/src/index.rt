@@ -2,7 +2,8 @@
 
 ghost use Rattle.std.specs.Prelude.{◌≡◌, ◌∷◌, true, IfSome, OnOk, OnErr};
 ghost use Rattle.octet_rows.specs.Chains.{latest, AreChained};
-ghost use Rattle.octet_rows.specs.Found.{is_at as is_row_at, first_at as first_row_at, IsNoted, IsSame};
+ghost use Rattle.octet_rows.specs.Found.{is_at as is_row_at, first_at as first_row_at, IsNoted};
+ghost use Rattle.octet_rows.specs.Found.{IsSame};
 
 use crate::firsts::Firsts;
 use crate::hashing::hash_of;
@@ -44,7 +45,7 @@ fn is_at(rows: &Rows, place: u32, row: &[u8]) -> bool
     }
 }
 
-/// The last of so many places, where the row stands there.
+/// The last of n places, where the row stands there.
 fn last_at(rows: &Rows, count: u32, row: &[u8]) -> Option<u32>
     ensures { IfSome result (λ place. is_row_at rows.now row.now place ≡ true) }
 {
@@ -82,8 +83,10 @@ fn place_at(rows: &Rows, place: u32, further: &[u32], row: &[u8]) -> Option<u32>
 fn note(first: &mut Firsts, further: &mut Vec<u32>, hash: u64, place: u32) -> Result<(), AllocError>
     requires { AreChained first.old.heads.items first.old.entries.items }
     ensures chained { AreChained first.new.heads.items first.new.entries.items }
-    ensures noted { OnOk result (IsNoted (latest first.old.entries.items) further.old.items (latest first.new.entries.items) further.new.items hash place) }
-    ensures err { OnErr result (IsSame (latest first.old.entries.items) further.old.items (latest first.new.entries.items) further.new.items) }
+    ensures noted { OnOk result (IsNoted (latest first.old.entries.items) further.old.items
+        (latest first.new.entries.items) further.new.items hash place) }
+    ensures err { OnErr result (IsSame (latest first.old.entries.items) further.old.items
+        (latest first.new.entries.items) further.new.items) }
 {
     if first.insert(hash, place)?.is_some() {
         further.push(place)?;
@@ -92,7 +95,8 @@ fn note(first: &mut Firsts, further: &mut Vec<u32>, hash: u64, place: u32) -> Re
 }
 
 impl Index {
-    ghost use Rattle.std.specs.Prelude.{◌≡◌, ◌++◌, ◌∷◌, [], length, slice_get, option_copied, IfOk, OnOk, OnErr};
+    ghost use Rattle.std.specs.Prelude.{◌≡◌, ◌++◌, ◌∷◌, [], length, slice_get, option_copied, IfOk};
+    ghost use Rattle.std.specs.Prelude.{OnOk, OnErr};
     ghost use Rattle.octet_rows.specs.Hashing.{hash_at};
     ghost use Rattle.octet_rows.specs.Found.{place_in};
 
@@ -107,7 +111,7 @@ impl Index {
         }
     }
 
-    /// There is none, and room for so many with so many octets together.
+    /// There is none, and memory for that many, with that many octets together.
     pub fn with_capacity(alloc: Global, rows: usize, octets: usize) -> Result<Self, AllocError>
         ensures { IfOk result (λ index. index ≡ []) }
     {

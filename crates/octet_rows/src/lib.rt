@@ -1,4 +1,4 @@
-//! Rows of octets that lie one behind the other, and what finds one by its octets without a copy of it.
+//! Rows of octets that lie one after the other, and what finds one by its octets without a copy of it.
 #![tactic(auto)]
 
 // the octets

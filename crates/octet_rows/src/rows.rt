@@ -1,4 +1,4 @@
-//! Octet rows that lie one behind the other.
+//! Octet rows that lie one after the other.
 
 ghost use Rattle.std.specs.Prelude.{◌≡◌, ◌+◌, IfOk};
 
@@ -12,7 +12,7 @@ struct Extent {
     end: u32,
 }
 
-/// The number of a place; one that is too large for a number is refused as memory that is wanting.
+/// The number of a place; one that is too large for a number is refused as out of memory.
 pub(crate) fn number_of(place: usize) -> Result<u32, AllocError>
     ensures { IfOk result (λ number. number ≡ place) }
 {
@@ -22,7 +22,7 @@ pub(crate) fn number_of(place: usize) -> Result<u32, AllocError>
     Ok(place as u32)
 }
 
-/// Where a row of so many octets lies behind others.
+/// Where a row of n octets lies after others.
 fn extent_behind(octets: usize, len: usize) -> Result<Extent, AllocError>
     ensures { IfOk result (λ extent. extent ≡ record { start = octets; end = octets + len }) }
 {
@@ -52,7 +52,8 @@ impl Model for Rows {
 }
 
 impl Rows {
-    ghost use Rattle.std.specs.Prelude.{◌≡◌, ◌++◌, ◌∷◌, [], length, slice_get, option_copied, IfOk, OnOk, OnErr};
+    ghost use Rattle.std.specs.Prelude.{◌≡◌, ◌++◌, ◌∷◌, [], length, slice_get, option_copied, IfOk};
+    ghost use Rattle.std.specs.Prelude.{OnOk, OnErr};
 
     /// There is none.
     pub fn new(alloc: Global) -> Rows
@@ -64,7 +65,7 @@ impl Rows {
         }
     }
 
-    /// There is none, and room for so many with so many octets together.
+    /// There is none, and memory for that many, with that many octets together.
     pub fn with_capacity(alloc: Global, rows: usize, octets: usize) -> Result<Rows, AllocError>
         ensures { IfOk result (λ r. r ≡ []) }
     {
@@ -112,7 +113,7 @@ impl Rows {
         self.extents.shrink_to_fit();
     }
 
-    /// Keeps so many of the first rows.
+    /// Keeps that many of the first rows.
     pub fn truncate(&mut self, len: usize)
         ensures { self.new ≡ take len self.old }
     {

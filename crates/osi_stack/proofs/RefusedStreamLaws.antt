@@ -69,7 +69,7 @@ step_again s tpdu c held fits (inr (t, tsdu, taken, bad)) =
 
 -- ---- a stream
 
--- what is open behind TPDUs are octets
+-- what is open after TPDUs are octets
 go_octets : (s t : Stand) (tpdus : List (List ℕ)) (es : List Event) → IsBytes s.transport.tsdu → AllByRecursion IsBytes tpdus → GoOn s tpdus es t → IsBytes t.transport.tsdu
 go_octets s t [] es held fits go = subst (λ (x : Stand). IsBytes x.transport.tsdu) (sym go.1) held
 go_octets s t (p ∷ ps) es held fits (on, mid, first, others, (given, taken, tells), split, go) = go_octets mid t ps others (taken_octets s.transport mid.transport p given held fits.0 taken).0 fits.1 go

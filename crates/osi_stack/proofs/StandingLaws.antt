@@ -47,7 +47,7 @@ nothing_stands t dialled phase stood on =
       count = λ still. refl;
     }
 
--- ---- behind the end
+-- ---- after the end
 
 no_runs : (s t : Stand) (tpdus : List (List ℕ)) (es : List Event) → has_ended s.phase ≡ true → Runs s tpdus es t → (es ≡ []) × (t ≡ s)
 no_runs s t [] es over runs = (runs.0, runs.1)

@@ -1,4 +1,4 @@
--- A stream comes to one list of events, or is refused for one cause behind one list.
+-- A stream comes to one list of events, or is refused for one cause after one list.
 use Rattle.std.proofs.Common.{◌≡◌, ℕ, Bool, true, false, List, [], ◌∷◌, ◌++◌, Option, Some, None, Result, Ok, Err, ◌⊎◌, inl, inr, refl, sym, ap, subst, ◌∙◌}
 use Rattle.std.specs.Option.{option_to_list}
 use Rattle.std.specs.List.{flat_map, AllByRecursion}
@@ -12,7 +12,7 @@ use Rattle.osi_stack.specs.declared.cause.Cause.{Cause}
 use Rattle.osi_stack.specs.Causes.{of_transport}
 use Rattle.osi_stack.specs.Stream.{Stand, has_ended, step_at, Runs, count_of, StandsAt, Stops, IsRefused}
 
--- how a stream ends: with the beginning of a TPKT, behind the end with anything, or refused
+-- how a stream ends: with the beginning of a TPKT, after the end with anything, or refused
 abbrev pub Ends : Stand → List ℕ → Option Cause → Type 0
 Ends s rest None = ((has_ended s.phase ≡ false) × IsPartial rest) ⊎ (has_ended s.phase ≡ true)
 Ends s rest (Some c) = (has_ended s.phase ≡ false) × Stops s rest c

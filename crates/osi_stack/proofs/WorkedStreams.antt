@@ -35,7 +35,7 @@ answered : run called (cr ++ 3 ∷ 0 ∷ []) ≡ record { events = Answer cc_for
 unfolding run packet_at parameters_of tpdu_at confirm_of connect_at tsdu_at step_at
 answered = refl
 
--- behind it stands no TPKT: the answer was given, and the cause tells the 22 octets before
+-- after it stands no TPKT: the answer was given, and the cause says the 22 octets before
 refused : ((run called (cr ++ 4 ∷ 0 ∷ [])).events ≡ Answer cc_for_it ∷ [])
     × (refusal (cr ++ 4 ∷ 0 ∷ []) (run called (cr ++ 4 ∷ 0 ∷ [])) ≡ Some (Refused 1 1 22))
 unfolding run packet_at parameters_of tpdu_at confirm_of connect_at tsdu_at step_at

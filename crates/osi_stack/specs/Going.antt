@@ -32,7 +32,7 @@ fault_at (stops.Refused cause) count = Refused cause.layer cause.code count
 
 -- ---- one TPKT
 
--- so many octets more, as far as 64 bits can say
+-- n octets more, as far as 64 bits can say
 abbrev pub counted : ℕ → ℕ → ℕ
 counted before more = min (before + more) (2 ^ 64 - 1)
 
@@ -51,7 +51,7 @@ abbrev pub StaysTpkt : Stop → Phase → Option Tpkt → List Event → List Ev
 StaysTpkt s phase None before now = ⊥
 StaysTpkt s phase (Some taken) before now = Stays s phase taken.tsdu before now
 
--- what is held, and octets behind it
+-- what is held, and octets after it
 abbrev pub held_with : Link → List ℕ → List ℕ
 held_with l piece = l.transport.held ++ piece
 
@@ -78,7 +78,7 @@ IsHalted s a piece b before now = (now ≡ before) × (b.octets ≡ a.octets) ×
 abbrev pub WentAll : Link → Link → List ℕ → List Event → List Event → Type 0
 WentAll a b piece before now = (rest : List ℕ) × Went a b piece rest before now × ((rest ≡ []) ⊎ (has_ended b.phase ≡ true))
 
--- why a connection stops behind whole TPKTs that have so many octets
+-- why a connection stops after whole TPKTs that have n octets
 abbrev pub Why : StackFault → Stand → List ℕ → ℕ → Type 0
 Why Memory s bad count = Unit {0}
 Why (Refused layer code octets) s bad count = (has_ended s.phase ≡ false) × Stops s bad (let c : Cause = record { layer = layer; code = code } in c) × (octets ≡ count)

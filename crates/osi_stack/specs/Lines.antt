@@ -16,7 +16,7 @@ pub record IsLine (line : Line) : Type 0 where
   pub least : 1024 ≤ line.size
   pub most : line.size ≤ 65000
 
--- the line that an event tells
+-- the line that an event says
 abbrev pub HasLine : Event → Type 0
 HasLine (Connected line octets) = IsLine line
 HasLine (Answer octets) = Unit {0}

@@ -29,7 +29,7 @@ connect_at (Asking exponent size) cr = confirmed cr
 connect_at (Joined line) cr = confirmed cr
 connect_at Ended cr = confirmed cr
 
--- Data come only behind the connection, and none behind the end.
+-- Data come only after the connection, and none after the end.
 unfoldable pub data_at : Phase → List ℕ → Outcome
 data_at Idle octets = Err (of_transport transport.Sequence)
 data_at (Calling size) octets = Err (of_transport transport.Sequence)

@@ -103,8 +103,8 @@ IsTsduRefused phase Disconnect c = ⊥
 abbrev pub IsTpduRefused : Stand → List ℕ → Cause → Type 0
 IsTpduRefused s tpdu c = In of_transport (IsRefusedTpdu s.transport tpdu) c ⊎ ((t : State) × (tsdu : Tsdu) × IsTaken s.transport tpdu t (Some tsdu) × IsTsduRefused s.phase tsdu c)
 
--- Behind whole TPKTs, whose TPDUs tell these events and didn't end it, stands no legal TPKT or a refused one. The TPKTs
--- before it have so many octets.
+-- After whole TPKTs, whose TPDUs give these events and didn't end it, stands no legal TPKT or a refused one. The TPKTs
+-- before it have n octets.
 pub record SpellsRefusal (from : Stand) (octets : List ℕ) (events : List Event) (cause : Cause) (count : ℕ) : Type 0 where
   pub fits : IsBytes octets
   pub stand : Stand

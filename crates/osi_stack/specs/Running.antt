@@ -13,7 +13,7 @@ use Rattle.osi_stack.specs.Causes.{of_transport}
 use Rattle.osi_stack.specs.Stream.{Stand, has_ended, step_at, count_of}
 use Rattle.osi_stack.specs.Going.{stand}
 
--- the events, where the connection stands behind them, the octets that are left, and why these are refused, where they are
+-- the events, where the connection stands after them, the octets that are left, and why these are refused, where they are
 pub record Came : Type 0 where
   pub events : List Event
   pub stand : Stand
@@ -37,7 +37,7 @@ after_packet go s octets (Ok None) = left_at s octets None
 after_packet go s octets (Ok (Some (tpdu, after))) = after_step go s octets after (step_at s tpdu)
 after_packet go s octets (Err f) = left_at s octets (Some (of_transport f))
 
--- at most so many TPKTs
+-- at most n TPKTs
 abbrev pub run_within : ℕ → Stand → List ℕ → Came
 run_within zero s octets = left_at s octets None
 run_within (suc n) s octets = if has_ended s.phase then left_at s octets None else after_packet (run_within n) s octets (packet_at octets)
@@ -50,12 +50,12 @@ run s octets = run_within (length octets) s octets
 abbrev pub refusal : List ℕ → Came → Option StackFault
 refusal octets x = option_map (λ c. Refused c.layer c.code (count_of octets x.rest)) x.cause
 
--- The octets are refused so: events were added that make, behind those so far, all that running them gives.
+-- The octets are refused so: events were added that make, after those so far, all that running them gives.
 abbrev pub IsRefusedBehind : Stand → StackFault → List ℕ → List Event → List Event → List Event → Type 0
 IsRefusedBehind from f octets so_far before now = IsBytes octets × (more : List Event) × (now ≡ before ++ more)
     × ((run from octets).events ≡ so_far ++ more) × (refusal octets (run from octets) ≡ Some f)
 
--- What came of it with more octets behind: they follow those that were left. What is refused stays so.
+-- What came of it with more octets after: they follow those that were left. What is refused stays so.
 abbrev pub further_from : Came → List ℕ → Option Cause → Came
 further_from x more None = behind x.events (run x.stand (x.rest ++ more))
 further_from x more (Some c) = record { events = x.events; stand = x.stand; rest = x.rest ++ more; cause = Some c }

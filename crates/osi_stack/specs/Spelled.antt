@@ -1,4 +1,4 @@
--- What the octets of a connection spell, production by production, and the events that this tells.
+-- What the octets of a connection spell, production by production, and the events that this says.
 use Rattle.std.specs.Prelude.{◌≡◌, ℕ, true, false, List, [], ◌∷◌, ◌++◌, Option, Some, None, ◌⊎◌}
 use Rattle.std.specs.Option.{option_to_list}
 use Rattle.std.specs.List.{flat_map, AllByRecursion}
@@ -74,7 +74,7 @@ IsDisconnect octets = (user : Option Piece) × HasUser DISCONNECT (anywhere octe
 abbrev pub IsAbort : List ℕ → Type 0
 IsAbort octets = IsSpdu (anywhere octets) abort
 
--- ---- what a TSDU tells a connection: the next phase, and perhaps an event
+-- ---- what a TSDU says to a connection: the next phase, and perhaps an event
 
 -- a PDU of MMS, in its context
 abbrev pub TellsPdu : Phase → ℕ → List ℕ → Phase × Option Event → Type 0
@@ -106,7 +106,7 @@ HasOctets Disconnect = Unit {0}
 
 -- ---- streams
 
--- what a TPDU gave, if it gave anything, tells this
+-- what a TPDU gave, if it gave anything, says this
 abbrev pub TellsGiven : Phase → Option Tsdu → Phase × Option Event → Type 0
 TellsGiven phase None x = x ≡ (phase, None)
 TellsGiven phase (Some tsdu) x = Tells phase tsdu x
@@ -115,13 +115,13 @@ TellsGiven phase (Some tsdu) x = Tells phase tsdu x
 abbrev pub Goes : Stand → List ℕ → Stand → Option Event → Type 0
 Goes s tpdu t e = (given : Option Tsdu) × IsTaken s.transport tpdu t.transport given × TellsGiven s.phase given (t.phase, e)
 
--- TPDUs in turn, none behind the end
+-- TPDUs in turn, none after the end
 abbrev pub GoOn : Stand → List (List ℕ) → List Event → Stand → Type 0
 GoOn s [] events t = (events ≡ []) × (t ≡ s)
 GoOn s (tpdu ∷ tpdus) events t = (has_ended s.phase ≡ false) × (mid : Stand) × (first : Option Event) × (others : List Event)
     × Goes s tpdu mid first × (events ≡ option_to_list first ++ others) × GoOn mid tpdus others t
 
--- The octets are whole TPKTs (RFC 1006), whose TPDUs tell these events, and the beginning of one more, or, behind the end,
+-- The octets are whole TPKTs (RFC 1006), whose TPDUs give these events, and the beginning of one more, or, after the end,
 -- anything.
 pub record Spells (from t : Stand) (rest octets : List ℕ) (events : List Event) : Type 0 where
   pub fits : IsBytes octets

@@ -46,7 +46,7 @@ abbrev pub IsAnswered : Stand → List ℕ → Type 0
 IsAnswered from octets = ((t : Stand) × (rest : List ℕ) × (events : List Event) × StandsAt from t rest octets events)
     ⊎ ((events : List Event) × (c : Cause) × (count : ℕ) × IsRefused from octets events c count)
 
--- A refusal with what was added is this one: the same events in all, the same cause and the same count. Of want of memory
+-- A refusal with what was added is this one: the same events in all, the same cause and the same count. Of out of memory
 -- nothing is said.
 abbrev pub IsSameRefusal : StackFault → List Event → Cause → ℕ → List Event → List Event → List Event → Type 0
 IsSameRefusal Memory events c n so_far before now = Unit {0}

@@ -54,7 +54,7 @@ given_at phase (t, given) = gifts_at phase given >>= λ x. Ok (stand_of t x)
 unfoldable pub step_at : Stand → List ℕ → Result (Stand × Option Event) Cause
 step_at s tpdu = with_fault of_transport (tpdu_at s.transport tpdu) >>= λ given. given_at s.phase given
 
--- from one stand the TPDUs give these events and lead to another; none is taken behind the end
+-- from one stand the TPDUs give these events and lead to another; none is taken after the end
 abbrev pub Runs : Stand → List (List ℕ) → List Event → Stand → Type 0
 Runs s [] events t = (events ≡ []) × (t ≡ s)
 Runs s (tpdu ∷ tpdus) events t = (has_ended s.phase ≡ false) × (mid : Stand) × (first : Option Event) × (others : List Event)
@@ -71,7 +71,7 @@ pub record Takes (s : Stand) (octets : List ℕ) (events : List Event) (t : Stan
 abbrev pub count_of : List ℕ → List ℕ → ℕ
 count_of octets rest = min (length octets - length rest) (2 ^ 64 - 1)
 
--- From one stand on the octets are whole TPKTs that came to these events, and the beginning of one more, or, behind the
+-- From one stand on the octets are whole TPKTs that came to these events, and the beginning of one more, or, after the
 -- end, anything.
 pub record StandsAt (from t : Stand) (rest octets : List ℕ) (events : List Event) : Type 0 where
   pub fits : IsBytes octets
@@ -82,7 +82,7 @@ pub record StandsAt (from t : Stand) (rest octets : List ℕ) (events : List Eve
 abbrev pub Stops : Stand → List ℕ → Cause → Type 0
 Stops s rest cause = ((f : TpFault) × IsBad rest f × (cause ≡ of_transport f)) ⊎ ((tpdu more : List ℕ) × IsTpdu tpdu × (rest ≡ packet tpdu ++ more) × (step_at s tpdu ≡ Err cause))
 
--- Behind whole TPKTs, which came to these events and did not end it, the stream goes on in no legal way; they have so
+-- After whole TPKTs, which came to these events and did not end it, the stream goes on in no legal way; they have so
 -- many octets.
 pub record IsRefused (from : Stand) (octets : List ℕ) (events : List Event) (cause : Cause) (count : ℕ) : Type 0 where
   pub fits : IsBytes octets

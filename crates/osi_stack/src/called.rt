@@ -7,7 +7,9 @@ ghost use Rattle.session_pres.specs.Written.{release_spdu};
 ghost use Rattle.acse_apdu.specs.Written.{release_octets};
 ghost use Rattle.osi_stack.specs.Causes.{Comes};
 ghost use Rattle.osi_stack.specs.Lines.{IsLine, IsAgreed, IsSound};
-ghost use Rattle.osi_stack.specs.Called.{CanBeAccepted, acceptance, request_at, first_spdu, called_at, in_context, finish_at, pdu_in, next_spdu, open_at};
+ghost use Rattle.osi_stack.specs.Called.{CanBeAccepted, acceptance, request_at, first_spdu};
+ghost use Rattle.osi_stack.specs.Called.{called_at, in_context, finish_at, pdu_in, next_spdu};
+ghost use Rattle.osi_stack.specs.Called.{open_at};
 
 use crate::cause::Stop;
 use crate::events::{Event, Line};
@@ -59,7 +61,7 @@ fn request(alloc: Global, exponent: u8, user: &[u8]) -> Result<Transition, Stop>
     ))
 }
 
-/// Takes the TSDU behind a CR.
+/// Takes the TSDU after a CR.
 #[tactic(auto, unfolding(crate::specs::Called::called_at))]
 pub fn take_first(alloc: Global, exponent: u8, octets: &[u8]) -> Result<Transition, Stop>
     requires exponent { IsExponent exponent }

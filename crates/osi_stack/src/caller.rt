@@ -66,14 +66,16 @@ impl Caller {
         events: &mut Events,
     ) -> Result<(), StackFault>
         // However the stream was cut before: the object stands for it with this piece, or the stream is refused.
-        ensures stands { (size : ℕ) (octets : List ℕ) (so_far : List Event) → CallsFor self.old size octets so_far → MatchResult result
+        ensures stands { (size : ℕ) (octets : List ℕ) (so_far : List Event)
+            → CallsFor self.old size octets so_far → MatchResult result
             (λ _. CallsOn self.new size (octets ++ piece.now) so_far events.old events.new)
             (λ f. GivesUp f size (octets ++ piece.now) so_far events.old events.new) }
         // Each line that is told has its parts in their ranges.
         ensures lines { AllByRecursion HasLine events.old → AllByRecursion HasLine events.new }
         // What it refuses with it answers again.
         ensures refuses { IfErr result (λ f. HasGivenUp self.new f) }
-        ensures again { (f : StackFault) → HasGivenUp self.old f → (result ≡ Err f) × (self.new ≡ self.old) × (events.new ≡ events.old) }
+        ensures again { (f : StackFault) → HasGivenUp self.old f → (result ≡ Err f)
+            × (self.new ≡ self.old) × (events.new ≡ events.old) }
     {
         self.connection.feed(alloc, piece, events)
     }
@@ -82,7 +84,8 @@ impl Caller {
     /// association control (ISO 8327-1, ISO 8650-1), in its TPKTs.
     pub fn release(alloc: Global, line: Line) -> Result<Octs, AllocError>
         requires { IsExponent line.exponent }
-        ensures { IfOk result (λ o. o ≡ tsdu_of line.exponent (release_spdu FINISH 1 (release_octets RLRQ))) }
+        ensures { IfOk result (λ o. o ≡ tsdu_of line.exponent
+            (release_spdu FINISH 1 (release_octets RLRQ))) }
     {
         let finish = write_fn(alloc, 1, &write_rlrq())?;
         tsdu(alloc, line.exponent, finish.as_slice())

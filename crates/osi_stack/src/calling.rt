@@ -44,7 +44,7 @@ fn nothing(alloc: Global) -> Octs
     Octs::from_vec(Vec::new(alloc))
 }
 
-/// Takes the TSDU behind a CC.
+/// Takes the TSDU after a CC.
 #[tactic(auto, unfolding(crate::specs::Calling::asking_at))]
 pub fn take_answer(
     alloc: Global,

@@ -2,7 +2,8 @@
 
 ghost use Rattle.std.specs.Prelude.{◌≡◌};
 ghost use Rattle.osi_stack.specs.declared.cause.Stop.TheVariants.{Memory, Refused};
-ghost use Rattle.osi_stack.specs.Causes.{number_at, layer_at, refused_at, of_session, of_association, of_initiate, transport_stop};
+ghost use Rattle.osi_stack.specs.Causes.{number_at, layer_at, refused_at, of_session};
+ghost use Rattle.osi_stack.specs.Causes.{of_association, of_initiate, transport_stop};
 
 use acse_apdu::AcFault;
 use mms_elements::PduFault;

@@ -7,7 +7,8 @@ ghost use Rattle.tpkt_cotp.specs.Stream.{gift};
 ghost use Rattle.tpkt_cotp.specs.Written.{Fits};
 ghost use Rattle.osi_stack.specs.Lines.{IsAgreed};
 ghost use Rattle.osi_stack.specs.Stream.{has_ended};
-ghost use Rattle.osi_stack.specs.Going.{IsUsable, fault_at, Adds, Stays, AddsTpkt, StaysTpkt, Went, IsHalted, WentAll, Halts};
+ghost use Rattle.osi_stack.specs.Going.{IsUsable, fault_at, Adds, Stays, AddsTpkt, StaysTpkt, Went};
+ghost use Rattle.osi_stack.specs.Going.{IsHalted, WentAll, Halts};
 
 use crate::cause::Stop;
 use crate::events::Events;
@@ -37,7 +38,7 @@ impl Phase {
 }
 
 impl Stop {
-    /// The fault of a connection that had taken so many octets.
+    /// The fault of a connection that had taken n octets.
     fn behind(self, octets: u64) -> StackFault
         ensures { result ≡ fault_at self octets }
     {
@@ -160,7 +161,8 @@ impl Model for Connection {
 }
 
 impl Connection {
-    ghost use Rattle.std.specs.Prelude.{◌≡◌, ℕ, true, false, List, [], ◌++◌, Some, Err, IfErr, MatchResult};
+    ghost use Rattle.std.specs.Prelude.{◌≡◌, ℕ, true, false, List, [], ◌++◌, Some, Err, IfErr};
+    ghost use Rattle.std.specs.Prelude.{MatchResult};
     ghost use Rattle.std.specs.List.{AllByRecursion};
     ghost use Rattle.tpkt_cotp.specs.Stream.{StandsFor};
     ghost use Rattle.osi_stack.specs.declared.events.Event.{Event};
@@ -206,12 +208,14 @@ impl Connection {
         piece: &[u8],
         events: &mut Events,
     ) -> Result<(), StackFault>
-        ensures stands { (from : Stand) (octets : List ℕ) (so_far : List Event) → IsAt self.old from octets so_far → MatchResult result
+        ensures stands { (from : Stand) (octets : List ℕ) (so_far : List Event)
+            → IsAt self.old from octets so_far → MatchResult result
             (λ _. MovesOn self.new from (octets ++ piece.now) so_far events.old events.new)
             (λ f. StopsAt f from (octets ++ piece.now) so_far events.old events.new) }
         ensures lines { AllByRecursion HasLine events.old → AllByRecursion HasLine events.new }
         ensures refuses { IfErr result (λ f. HasStopped self.new f) }
-        ensures again { (f : StackFault) → HasStopped self.old f → (result ≡ Err f) × (self.new ≡ self.old) × (events.new ≡ events.old) }
+        ensures again { (f : StackFault) → HasStopped self.old f → (result ≡ Err f)
+            × (self.new ≡ self.old) × (events.new ≡ events.old) }
     {
         if let Some(fault) = self.refused {
             return Err(fault);

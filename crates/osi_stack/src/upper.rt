@@ -48,14 +48,16 @@ impl Upper {
         events: &mut Events,
     ) -> Result<(), StackFault>
         // However the stream was cut before: the object stands for it with this piece, or the stream is refused.
-        ensures stands { (octets : List ℕ) (so_far : List Event) → StandsFor self.old octets so_far → MatchResult result
+        ensures stands { (octets : List ℕ) (so_far : List Event) → StandsFor self.old octets so_far
+            → MatchResult result
             (λ _. GoesOn self.new (octets ++ piece.now) so_far events.old events.new)
             (λ f. Refuses f (octets ++ piece.now) so_far events.old events.new) }
         // Each line that is told has its parts in their ranges.
         ensures lines { AllByRecursion HasLine events.old → AllByRecursion HasLine events.new }
         // What it refuses with it answers again.
         ensures refuses { IfErr result (λ f. HasRefused self.new f) }
-        ensures again { (f : StackFault) → HasRefused self.old f → (result ≡ Err f) × (self.new ≡ self.old) × (events.new ≡ events.old) }
+        ensures again { (f : StackFault) → HasRefused self.old f → (result ≡ Err f)
+            × (self.new ≡ self.old) × (events.new ≡ events.old) }
     {
         self.connection.feed(alloc, piece, events)
     }

@@ -97,7 +97,7 @@ between c before was m is early late = by (was == m) refl where
 
 -- ---- a line
 
--- the line tells the step of its script, and its association is what it was there
+-- the line gives the step of its script, and its association is what it was there
 record IsSaid (c : Config) (before : List (List ℕ)) (l : StepLine) (k : ℕ) (s : TimedStep) : Type 0 where
   form : form_of before (line_at l.text) ≡ form_in l.form
   told : said c before l.text ≡ turn (actor_of k s.step) s.step
@@ -329,7 +329,7 @@ module _ (p : Plan) (sound : IsSound p) where
   reads-back [] within = record { now = refl; form = λ a. sym (none-so-far a); turns = refl; text = refl }
   reads-back (t ∷ h) within = back-more t h within (reads-back h (earlier t h within))
 
--- each step that was made has its line, which tells a step
+-- each step that was made has its line, which gives a step
 answerable : (p : Plan) (sound : IsSound p) (h : History) → IsWithin p sound h → All (IsAnswerable p.config (book_of p)) (made_of bay_rules p.config h)
 answerable p sound [] within = All-nil (IsAnswerable p.config (book_of p))
 answerable p sound (t ∷ h) within =

@@ -18,7 +18,7 @@ use Rattle.race_records.specs.Verdicts.{lesser}
 use Rattle.race_records.specs.Bounds.{is_beyond, first_beyond, beyond_in, lowest_from, lowest_beyond, IsBeyond, IsBeyondIn, IsBeyondOf, WriteNoOper}
 use Rattle.race_records.proofs.Owns.{NeverFull}
 
--- at a greater number there is no more room
+-- at a greater number there is no capacity left
 pub more-beyond : (n m : ℕ) (s : Step) → n ≤ m → is_beyond n s ≡ true → is_beyond m s ≡ true
 more-beyond n m (steps.Ask e r) le h = grind (arith, nat_tests)
 more-beyond n m (steps.Open e size writer owner) le h = h
@@ -30,7 +30,7 @@ more-beyond n m (steps.Done x good) le h = h
 more-beyond n m (steps.Block x flag) le h = h
 more-beyond n m steps.Tick le h = h
 
--- there is room for each request of these steps, where so many replies wait before them
+-- there is capacity for each request of these steps, where n replies wait before them
 abbrev pub NoneBeyond : ℕ → ℕ → List TimedStep → Type 0
 NoneBeyond k n [] = Unit {0}
 NoneBeyond k n (s ∷ ss) = (is_beyond n s.step ≡ false) × NoneBeyond k (waits_behind k s.step n) ss
@@ -91,7 +91,7 @@ module _ (c : Model) (k : ℕ) where
       ap (λ b. if b then Some l.number else first_beyond c k (waits_behind k s.step n) (opers_behind c k s.step m) ls ss) none.0
       ∙ none-first (waits_behind k s.step n) (opers_behind c k s.step m) ls ss none.1
 
-  -- the bound of a script's association behind these turns of it
+  -- the bound of a script's association after these turns of it
   abbrev pub bound : History → ℕ
   bound turns = waits k turns + opers c k turns
 

@@ -1,4 +1,4 @@
--- What comes of a race is known from the scripts: an actor stops at the first request for which its own script leaves no room.
+-- What comes of a race is known from the scripts: an actor stops at the first request for which its own script leaves no capacity.
 use Rattle.std.proofs.Common.{◌≡◌, ◌+◌, ◌||◌, ◌&&◌, ℕ, zero, suc, Bool, true, false, cond, not, List, [], ◌∷◌, ◌++◌, length, take, map, get_or, refl, sym, ap, ap₂, subst, ◌∙◌, arith, inl, inr}
 use Rattle.std.specs.Prelude.{Option, None, Some, nat_le, slice_get, if◌then◌else◌}
 use Rattle.std.specs.Option.{option_map}
@@ -80,7 +80,7 @@ asked-full : (e : ℕ) (b : Bool) (o : Fault) → Some o ≡ (if b then Some (Qu
 asked-full e true o h = (refl, cc)
 asked-full e false o h = absurd cc
 
--- a step that is refused so is a request for which there is no room
+-- a step that is refused so is a request for which there is no memory
 full-beyond : (k m : ℕ) (s : Step) (n : ℕ → ℕ) (o : Fault) → IsItsOwn (histories.turn_of m k s) s → Some o ≡ own_fault s n → (is_beyond (n k) s ≡ true) × (e : ℕ) × (o ≡ QueueFull e)
 full-beyond k m (steps.Ask e r) n o own h = let f = asked-full e.0 (nat_le 16 (n e.0)) o h in (ap (λ a. nat_le 16 (n a)) own ∙ f.0, e.0, f.1)
 full-beyond k m (steps.Open e size writer owner) n o own h = absurd cc
@@ -102,7 +102,7 @@ module _ (p : Plan) (sound : IsSound p) where
   apart : AreApart model
   apart = are-apart c (served p.text c sound.text.config)
 
-  -- ---- the scripts that are played
+  -- ---- the scripts that are run
 
   abbrev there : ℕ → Option Script
   there k = script_of p k
@@ -129,7 +129,7 @@ module _ (p : Plan) (sound : IsSound p) where
   of-plan n (None ∷ scs) at = of-plan (suc n) scs (tail-rest n None scs at)
   of-plan n (Some s ∷ scs) at = of-push (roles_from (suc n) scs) (n, s.steps) (of-plan (suc n) scs (tail-rest n (Some s) scs at)) (ap steps_in (tail-first n (Some s) scs at))
 
-  -- the lowest line of so many
+  -- the lowest line of that many
   abbrev lowest_of : List Role → Option ℕ
   lowest_of [] = None
   lowest_of (r ∷ rs) = lesser (beyond_in model r.0 (there r.0)) (lowest_of rs)

@@ -36,7 +36,7 @@ pub length-turns : (k : ℕ) (steps : List TimedStep) (before : History) → len
 length-turns k [] before = omega arith
 length-turns k (s ∷ ss) before = omega (arith, length-turns k ss (turn_of s.moment k s.step ∷ before))
 
--- the newest of so many turns, and those before it
+-- the newest of n turns, and those before it
 pub record IsNewest (k : ℕ) (steps : List TimedStep) (t : Turn) (h : History) : Type 0 where
   pub step : TimedStep
   pub there : slice_get steps (length h) ≡ Some step

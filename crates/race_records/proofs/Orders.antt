@@ -1,4 +1,4 @@
--- The steps that the lines of a script tell are its association's own, and in order.
+-- The steps that the lines of a script say are its association's own, and in order.
 use Rattle.std.proofs.Common.{◌≡◌, ◌==◌, ℕ, zero, suc, Bool, true, false, not, List, ◌∷◌, refl, sym, ap, subst, ◌∙◌}
 use Rattle.std.specs.Prelude.{Option, None, Some, if◌then◌else◌}
 use Rattle.sv_base.specs.declared.config.Config.{Config}
@@ -42,7 +42,7 @@ use Rattle.script_plans.specs.Sound.{IsActor, IsTold}
 use Rattle.script_plans.specs.declared.line.StepLine.{StepLine}
 use Rattle.script_plans.proofs.TellLaws.{made, association-made, process-made, process-stays}
 
--- ---- what a line that tells a step makes of an association
+-- ---- what a line that gives a step makes of an association
 
 module _ (c : Config) (k actor : ℕ) (step : Step) where
   -- the step opens and loses nothing
@@ -221,7 +221,7 @@ module _ (opened : ℕ → Bool) (k actor m : ℕ) (same : actor ≡ k) where
     association-order (steps.Block n flag) own = tt
     association-order steps.Tick own = tt
 
--- ---- the step that a line of a script tells
+-- ---- the step that a line of a script says
 
 module _ (c : Config) (k : ℕ) (before : List (List ℕ)) (l : StepLine) (s : TimedStep) (is : IsTold c k before l s) where
   abbrev f : Form

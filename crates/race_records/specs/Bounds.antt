@@ -13,7 +13,7 @@ use Rattle.script_plans.specs.Plans.{Script, Plan, script_of}
 use Rattle.script_plans.specs.declared.line.StepLine.{StepLine}
 use Rattle.race_records.specs.Verdicts.{lesser}
 
--- a request for which there is no room
+-- a request for which there is no memory
 abbrev pub is_beyond : ℕ → Step → Bool
 is_beyond n (steps.Ask a r) = nat_le 16 n
 is_beyond n _ = false

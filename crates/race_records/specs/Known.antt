@@ -1,4 +1,4 @@
--- What comes of a race of a plan's scripts, where no turn found memory wanting.
+-- What comes of a race of a plan's scripts, where no turn found memory lacking.
 use Rattle.std.specs.Prelude.{◌≡◌, ◌==◌, ℕ, suc, true, false, List, [], ◌∷◌, ◌++◌, map, cond, Option, None, Some}
 use Rattle.bay_model.specs.Answers.{History}
 use Rattle.bay_histories.specs.Rules.{bay_rules}
@@ -26,7 +26,7 @@ roles_from n [] = []
 roles_from n (None ∷ ss) = roles_from (suc n) ss
 roles_from n (Some s ∷ ss) = roles_from (suc n) ss ++ (n, s.steps) ∷ []
 
--- the scripts that are played are those of the plan
+-- the scripts that are run are those of the plan
 abbrev pub AreScripts : Plan → List Played → Type 0
 AreScripts p ss = map role_of ss ≡ roles_from 0 p.scripts
 

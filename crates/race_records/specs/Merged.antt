@@ -40,11 +40,11 @@ line_of book m = slice_get (slice_index_or book m.actor []) m.index
 abbrev pub HasLine : Book → Made → Type 0
 HasLine book m = is_some (line_of book m) ≡ true
 
--- the line alone tells a step
+-- the line alone gives a step
 abbrev pub TellsStep : Config → StepLine → Type 0
 TellsStep c l = IsFit l.form × (actor : ℕ) × (step : Step) × (said_in c (form_in l.form) (line_at l.text) ≡ turn actor step)
 
--- a step that was made has its line, which tells a step
+-- a step that was made has its line, which gives a step
 pub record IsAnswerable (c : Config) (book : Book) (m : Made) : Type 0 where
   pub line : StepLine
   pub there : line_of book m ≡ Some line
@@ -55,7 +55,7 @@ pub record IsAnswerable (c : Config) (book : Book) (m : Made) : Type 0 where
 abbrev pub at_lines : ℕ → ℕ → List (List ℕ)
 at_lines was now = if was == now then [] else spelled (lines.At now) ∷ []
 
--- a line behind one of this moment
+-- a line after one of this moment
 abbrev pub lines_behind : ℕ → Option StepLine → List (List ℕ)
 lines_behind was None = []
 lines_behind was (Some l) = at_lines was l.moment ++ l.text ∷ []
@@ -64,7 +64,7 @@ abbrev pub moment_behind : ℕ → Option StepLine → ℕ
 moment_behind was None = was
 moment_behind was (Some l) = l.moment
 
--- the lines of steps that were made, the first one first, behind a line of this moment
+-- the lines of steps that were made, the first one first, after a line of this moment
 abbrev pub merged : Book → ℕ → List Made → List (List ℕ)
 merged book was [] = []
 merged book was (m ∷ ms) = lines_behind was (line_of book m) ++ merged book (moment_behind was (line_of book m)) ms

@@ -7,11 +7,11 @@ use Rattle.script_plans.specs.declared.line.StepLine.{StepLine}
 use Rattle.actor_scripts.specs.declared.part.Part.{Part}
 use Rattle.race_records.specs.Merged.{Book}
 
--- the number of the line of an actor behind so many
+-- the number of the line of an actor after that many
 abbrev pub number_at : Book → ℕ → ℕ → Option ℕ
 number_at book k n = option_map (λ (l : StepLine). l.number) (slice_get (slice_index_or book k []) n)
 
--- the line whose turn met a full queue, behind those that went
+-- the line whose turn met a full queue, after those that went
 abbrev pub full_by : Book → Part → Option StepFault → Option ℕ
 full_by book part (Some (faults.QueueFull a)) = number_at book part.actor (length part.replies.items)
 full_by book part _ = None
@@ -42,7 +42,7 @@ abbrev pub wants_memory : Option StepFault → Bool
 wants_memory (Some faults.Memory) = true
 wants_memory _ = false
 
--- a turn was refused for want of memory
+-- a turn was refused when out of memory
 abbrev pub lacks_memory : List Part → Bool
 lacks_memory [] = false
 lacks_memory (part ∷ parts) = wants_memory part.fault || lacks_memory parts

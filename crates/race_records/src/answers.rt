@@ -2,7 +2,8 @@
 
 ghost use Rattle.std.specs.Prelude.{◌≡◌, ◌++◌, Some, OnOk};
 ghost use Rattle.std.specs.List.{All};
-ghost use Rattle.race_records.specs.Merged.{answer_to, answered, book_seen, TellsStep, IsAnswerable};
+ghost use Rattle.race_records.specs.Merged.{answer_to, answered, book_seen, TellsStep};
+ghost use Rattle.race_records.specs.Merged.{IsAnswerable};
 
 use crate::book::line_made;
 use actor_scripts::Made;
@@ -14,7 +15,7 @@ use run_record::view_line;
 use script_plans::StepLine;
 use std::alloc::{AllocError, Global};
 
-/// Adds the answer to the step that a line tells.
+/// Adds the answer to the step that a line gives.
 fn push_answer(
     alloc: Global,
     out: &mut Vec<u8>,
@@ -23,7 +24,8 @@ fn push_answer(
     answer: &Answer,
 ) -> Result<(), AllocError>
     requires { TellsStep model.now line.now }
-    ensures { OnOk result (out.new.items ≡ out.old.items ++ answer_to model.now (Some line.now) answer.now) }
+    ensures { OnOk result (out.new.items ≡ out.old.items ++ answer_to model.now
+        (Some line.now) answer.now) }
 {
     let Ok(view) = view_line(line.text.as_slice()) else {
         unreachable!()
@@ -45,7 +47,8 @@ pub fn write_answers(
     made: &[Made],
 ) -> Result<(), AllocError>
     requires { All (IsAnswerable model.now (book_seen book.now)) made.now }
-    ensures { OnOk result (out.new.items ≡ out.old.items ++ answered model.now (book_seen book.now) made.now) }
+    ensures { OnOk result (out.new.items ≡ out.old.items ++ answered model.now
+        (book_seen book.now) made.now) }
 {
     for step in made {
         let line = line_made(book, step);

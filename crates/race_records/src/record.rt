@@ -4,7 +4,8 @@ ghost use Rattle.std.specs.Prelude.{◌≡◌, ◌++◌, Some, OnOk};
 ghost use Rattle.std.specs.List.{All};
 ghost use Rattle.bay_model.specs.Points.{least_moment};
 ghost use Rattle.record_outcome.specs.Histories.{octets_of};
-ghost use Rattle.race_records.specs.Merged.{at_lines, lines_behind, merged, record_with, book_seen, HasLine};
+ghost use Rattle.race_records.specs.Merged.{at_lines, lines_behind, merged, record_with, book_seen};
+ghost use Rattle.race_records.specs.Merged.{HasLine};
 
 use crate::book::line_made;
 use actor_scripts::Made;
@@ -23,9 +24,10 @@ fn push_moment(out: &mut Vec<u8>, was: Moment, now: Moment) -> Result<(), AllocE
     write_line(&RecLine::At(now), out)
 }
 
-/// Adds a line behind one of this moment.
+/// Adds a line after one of this moment.
 fn push_line(out: &mut Vec<u8>, was: Moment, line: &StepLine) -> Result<(), AllocError>
-    ensures { OnOk result (out.new.items ≡ out.old.items ++ octets_of (lines_behind was (Some line.now))) }
+    ensures { OnOk result (out.new.items ≡ out.old.items ++ octets_of
+        (lines_behind was (Some line.now))) }
 {
     push_moment(out, was, line.moment)?;
     out.extend_from_slice(line.text.as_slice())?;
@@ -36,7 +38,8 @@ fn push_line(out: &mut Vec<u8>, was: Moment, line: &StepLine) -> Result<(), Allo
 /// Adds the lines of steps that were made.
 fn push_lines(out: &mut Vec<u8>, book: &[Vec<StepLine>], made: &[Made]) -> Result<(), AllocError>
     requires { All (HasLine (book_seen book.now)) made.now }
-    ensures { OnOk result (out.new.items ≡ out.old.items ++ octets_of (merged (book_seen book.now) least_moment made.now)) }
+    ensures { OnOk result (out.new.items ≡ out.old.items ++ octets_of
+        (merged (book_seen book.now) least_moment made.now)) }
 {
     let mut was = Moment::first();
     for step in made {
@@ -56,7 +59,8 @@ pub fn write_record(
     made: &[Made],
 ) -> Result<(), AllocError>
     requires { All (HasLine (book_seen book.now)) made.now }
-    ensures { OnOk result (out.new.items ≡ out.old.items ++ record_with text.now (merged (book_seen book.now) least_moment made.now)) }
+    ensures { OnOk result (out.new.items ≡ out.old.items ++ record_with text.now
+        (merged (book_seen book.now) least_moment made.now)) }
 {
     out.extend_from_slice(b"record 1\n")?;
     out.extend_from_slice(text)?;

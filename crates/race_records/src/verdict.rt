@@ -1,15 +1,16 @@
-//! What came of a race: whether memory was wanting, and which line met a full queue.
+//! What came of a race: whether memory was lacking, and which line met a full queue.
 
 ghost use Rattle.std.specs.Prelude.{◌≡◌};
 ghost use Rattle.race_records.specs.Merged.{book_seen};
-ghost use Rattle.race_records.specs.Verdicts.{number_at, full_line as full_line_of, lesser as lesser_of, lowest_full as lowest_of};
+ghost use Rattle.race_records.specs.Verdicts.{number_at, full_line as full_line_of};
+ghost use Rattle.race_records.specs.Verdicts.{lesser as lesser_of, lowest_full as lowest_of};
 ghost use Rattle.race_records.specs.Verdicts.{lacks_memory as lacks_memory_in};
 
 use actor_scripts::Part;
 use bay_histories::StepFault;
 use script_plans::StepLine;
 
-/// The number of an actor's line behind so many; none where it has no such line.
+/// The number of an actor's line after that many; none where it has no such line.
 fn number_of(book: &[Vec<StepLine>], actor: u32, index: usize) -> Option<u64>
     ensures { result ≡ number_at (book_seen book.now) actor index }
 {
@@ -49,7 +50,7 @@ pub fn lowest_full(book: &[Vec<StepLine>], parts: &[Part]) -> Option<u64>
     }
 }
 
-/// A turn was refused for want of memory.
+/// A turn was refused when out of memory.
 pub fn lacks_memory(parts: &[Part]) -> bool
     ensures { result ≡ lacks_memory_in parts.now }
 {

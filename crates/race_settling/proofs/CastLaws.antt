@@ -126,7 +126,7 @@ cast-turns n (Some r ∷ rs) zero k is =
 cast-turns n (Some r ∷ rs) (suc j) k is =
     turns-other (cast_from (suc n) rs) (record { actor = n; steps = r.steps }) k (λ e. absurd (omega (arith, e, is))) ∙ cast-turns (suc n) rs j k (omega (arith, is))
 
--- ---- what they can play
+-- ---- what they can run
 
 abbrev FitsOrNone : Config → Option (List TimedStep) → Type 0
 FitsOrNone c None = Unit {0}

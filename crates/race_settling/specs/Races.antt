@@ -13,7 +13,7 @@ use Rattle.script_plans.specs.Sound.{IsSound}
 use Rattle.race_records.specs.Merged.{Book, book_of}
 use Rattle.race_records.specs.Known.{AreScripts, AreOfPlan}
 
--- a sound plan of this configuration and text, whose scripts have these lines and are played so; the numbers of their actors fall
+-- a sound plan of this configuration and text, whose scripts have these lines and are run so; the numbers of their actors fall
 pub record IsOfPlan (p : Plan) (c : Config) (text : List ℕ) (book : Book) (ss : List Part) : Type 0 where
   pub sound : IsSound p
   pub config : p.config ≡ c

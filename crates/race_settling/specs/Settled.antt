@@ -47,7 +47,7 @@ pub record MeetsFull (p : Plan) (line : ℕ) : Type 0 where
   pub raced : IsRaced bay_rules p.config scripts parts history
   pub lowest : lowest_full (book_of p) parts ≡ Some line
 
--- the performance of a plan: its record, or the status with which it ends
+-- the race of a plan: its record, or the status with which it ends
 abbrev pub Performs : Plan → Result (Vec ℕ Global) Status → Type 0
 Performs p (Ok out) = Goes p out.items
 Performs p (Err (statuses.Limit which line)) = (which ≡ 2) × MeetsFull p line

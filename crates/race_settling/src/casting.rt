@@ -1,8 +1,10 @@
 //! The actors of a plan, and the lines of their scripts.
 
-ghost use Rattle.std.specs.Prelude.{◌≡◌, ◌≤◌, ◌++◌, ◌∷◌, [], None, Some, map, length, slice_set, IfOk, OnOk};
+ghost use Rattle.std.specs.Prelude.{◌≡◌, ◌≤◌, ◌++◌, ◌∷◌, [], None, Some, map, length, slice_set};
+ghost use Rattle.std.specs.Prelude.{IfOk, OnOk};
 ghost use Rattle.race_records.specs.Merged.{lines_in, book_seen};
-ghost use Rattle.race_settling.specs.Casting.{script_steps, role_steps, script_place, role_place, AreSeats, HasGate, HaveGates, without_gate};
+ghost use Rattle.race_settling.specs.Casting.{script_steps, role_steps, script_place, role_place};
+ghost use Rattle.race_settling.specs.Casting.{AreSeats, HasGate, HaveGates, without_gate};
 ghost use Rattle.race_settling.specs.Casting.{cast_one, cast_from, IsCast};
 
 use actor_scripts::{Actor, Script as ActorScript, TimedStep};
@@ -41,9 +43,12 @@ fn add_role(
     book: &mut Vec<Vec<StepLine>>,
     slot: Option<Script>,
 ) -> Result<(), AllocError>
-    ensures roles { OnOk result (map role_steps roles.new.items ≡ map role_steps roles.old.items ++ script_steps slot ∷ []) }
-    ensures places { OnOk result (map role_place roles.new.items ≡ map role_place roles.old.items ++ script_place slot ∷ []) }
-    ensures book { OnOk result (book_seen book.new.items ≡ book_seen book.old.items ++ lines_in slot ∷ []) }
+    ensures roles { OnOk result (map role_steps roles.new.items ≡ map role_steps roles.old.items
+        ++ script_steps slot ∷ []) }
+    ensures places { OnOk result (map role_place roles.new.items ≡ map role_place roles.old.items
+        ++ script_place slot ∷ []) }
+    ensures book { OnOk result (book_seen book.new.items ≡ book_seen book.old.items
+        ++ lines_in slot ∷ []) }
 {
     let (role, lines) = split(alloc, slot);
     if roles.push(role).is_err() {
@@ -126,7 +131,8 @@ fn add_actor<G: Gate>(
     role: Option<Role>,
 ) -> Result<(), AllocError>
     requires gates { HaveGates gates.old.items (role_place role ∷ []) }
-    ensures actors { OnOk result (map (λ a. a.script) actors.new.items ≡ map (λ a. a.script) actors.old.items ++ cast_one actor role) }
+    ensures actors { OnOk result (map (λ a. a.script) actors.new.items
+        ≡ map (λ a. a.script) actors.old.items ++ cast_one actor role) }
     ensures gates { OnOk result (gates.new.items ≡ without_gate gates.old.items (role_place role)) }
 {
     let Some(Role { place, steps }) = role else {

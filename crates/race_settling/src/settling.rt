@@ -27,7 +27,8 @@ fn record_of(
     made: &[Made],
 ) -> Result<Vec<u8>, AllocError>
     requires { All (IsAnswerable model.now (book_seen book.now)) made.now }
-    ensures { IfOk result (λ v. v.items ≡ record_with text.now (merged (book_seen book.now) least_moment made.now) ++
+    ensures { IfOk result (λ v. v.items ≡ record_with text.now
+        (merged (book_seen book.now) least_moment made.now) ++
         (answered model.now (book_seen book.now) made.now ++ codes "end\n")) }
 {
     let mut out = Vec::new(alloc);
@@ -45,8 +46,10 @@ pub fn settle(
     book: &[Vec<StepLine>],
     raced: Raced,
 ) -> Result<Result<Vec<u8>, Status>, AllocError>
-    requires plan { (p : ThePlan) × (ss : List ThePart) × IsOfPlan p model.now text.now (book_seen book.now) ss × IsOfRace p.config ss raced }
-    ensures { (p : ThePlan) (ss : List ThePart) → IsOfPlan p model.now text.now (book_seen book.now) ss → IsOfRace p.config ss raced
+    requires plan { (p : ThePlan) × (ss : List ThePart) × IsOfPlan p model.now text.now
+        (book_seen book.now) ss × IsOfRace p.config ss raced }
+    ensures { (p : ThePlan) (ss : List ThePart)
+        → IsOfPlan p model.now text.now (book_seen book.now) ss → IsOfRace p.config ss raced
         → IfOk result (Performs p) }
 {
     let Raced { total, parts } = raced;

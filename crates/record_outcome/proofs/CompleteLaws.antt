@@ -153,7 +153,7 @@ no-newline-end = All-from_recursion (λ b. (b == 10) ≡ false) (codes "end") (r
 no-newline-head : NoNewline (codes "record 1")
 no-newline-head = All-from_recursion (λ b. (b == 10) ≡ false) (codes "record 1") (refl, (refl, (refl, (refl, (refl, (refl, (refl, (refl, tt))))))))
 
--- what follows the last line stands behind all of it
+-- what follows the last line stands after all of it
 rest-behind : (remarks inner steps : List (List ℕ)) (rest : List ℕ) → record_octets remarks inner steps rest ≡ record_octets remarks inner steps [] ++ rest
 rest-behind remarks inner steps rest = sym (simp append_assoc refl)
 

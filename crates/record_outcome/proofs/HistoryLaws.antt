@@ -45,7 +45,7 @@ pub onto-behind : {A : Type 0} (xs ys zs : List A) → onto (ys ++ zs) xs ≡ on
 onto-behind [] ys zs = refl
 onto-behind (x ∷ xs) ys zs = onto-behind xs (x ∷ ys) zs
 
--- Behind parts that made these turns and this text, the steps of a piece are made at one moment, and answered in one shape.
+-- After parts that made these turns and this text, the steps of a piece are made at one moment, and answered in one shape.
 module _ (number : ℕ) (c : Config) (shape : Shape) (moment : ℕ) (form : ℕ → Form) where
   abbrev pub at : List Part → Played
   at ps = record { moment = moment; turns = turns_of ps; form = form }
@@ -80,7 +80,7 @@ module _ (number : ℕ) (c : Config) (shape : Shape) (moment : ℕ) (form : ℕ 
         (g.0, λ before is. g.1 before (ap (λ t. t ++ lines) is ∙ append_assoc before so_far lines), λ h. g.2 (h, none))
     by rest (Some f) some e = absurd cc
 
-  -- the reading stops, at a step that is refused behind those before it
+  -- the reading stops, at a step that is refused after those before it
   abbrev HasStopped : List Part → List Part → List Heard → Status → List ℕ → Type 0
   HasStopped ps behind hs status out = (later : List Part) × (t : Turn) × (earlier : List Part) × (f : Fault) × (onwards ps hs ≡ later ++ stepped t shape ∷ earlier)
       × (fault (configured_model c) (turns_of (earlier ++ behind)) t ≡ Some f) × (stops (stop_of number f) [] ≡ stops status out)
@@ -107,18 +107,18 @@ Of = List (List ℕ) → Option Recorded
 abbrev configured : List ℕ → Of
 configured text ls = option_and_then (λ (p : Parted). recorded (config_at (text ++ octets_of p.configuration)) p.steps) (parted ls)
 
--- behind step lines, the newest of them first
+-- after step lines, the newest of them first
 abbrev pub standing : Config → List (List ℕ) → Played
 standing c before = record { moment = moment_of c before; turns = turns_in (steps_of c before); form = λ a. form_at a before }
 
--- behind one line more, which is read so and tells this
+-- after one line more, which is read so and says this
 abbrev pub parts_by : Config → List (List ℕ) → Result RecLine Kind → Told → List Part
 parts_by c before r t = parts_in (moment_of c before) (form_of before r) t
 
 abbrev pub grown : Config → List (List ℕ) → Result RecLine Kind → Told → Played
 grown c before r t = record { moment = moment_after t (moment_of c before); turns = turns_in (parts_by c before r t ∷ steps_of c before); form = λ a. form_after a r (form_at a before) }
 
--- what holds where a line is read so and tells this holds behind it
+-- what holds where a line is read so and says this holds after it
 pub onto-line : (c : Config) (before : List (List ℕ)) (line : List ℕ) (r : Result RecLine Kind) (t : Told) → judging.line_at line ≡ r → said_in c (form_of before r) r ≡ t → (P : Result RecLine Kind → Told → Type 0) → P r t
     → P (judging.line_at line) (said c before line)
 onto-line c before line r t is says P p = subst (λ r. P r (said_in c (form_of before r) r)) (sym is) (subst (P r) (sym says) p)
@@ -237,9 +237,9 @@ module _ (h : Of) (count : ℕ) (line : List ℕ) (ls : List (List ℕ)) (status
   started-stops n (Err (faults.Refused l kind)) none e = stop-by (statuses.Config (n + l) (cfg.number_of kind)) [] e (refl, none)
   started-stops n (Err faults.Memory) none e = stop-by statuses.Memory [] e (refl, none)
 
-  -- a step line, behind others
+  -- a step line, after others
   module _ (c : Config) (before : List (List ℕ)) (history : (ls : List (List ℕ)) → h ls ≡ Some (record { config = c; lines = onto before ls; steps = steps_of c (onto before ls) })) (none : HasNoEnd before) where
-    -- a step of it finds the queue full, behind the parts of it that come before
+    -- a step of it finds the queue full, after the parts of it that come before
     full : (r : Result RecLine Kind) (told_ : Told) (later earlier : List Part) (t : Turn) (shape : Shape) (a : ℕ) → judging.line_at line ≡ r → said_in c (form_of before r) r ≡ told_ → parts_by c before r told_ ≡ later ++ stepped t shape ∷ earlier
         → fault (configured_model c) (turns_in (earlier ∷ steps_of c before)) t ≡ Some (QueueFull a) → MeetsFull (h (line ∷ []))
     full r told_ later earlier t shape a is says parts cause = subst MeetsFull (sym (history (line ∷ []))) (record {
@@ -321,7 +321,7 @@ stops-here place h written count line ls status text f e = by (nat_lt most_lines
   by true e = stop-by h count line ls status text (passed 1 (suc count) place) [] e (passed-stops h count (line ∷ ls) 1 place written (λ e. cc) f)
   by false e = below place f e
 
--- a line behind which the reading goes on
+-- a line after which the reading goes on
 abbrev On : Of → List ℕ → List ℕ → Place → List ℕ → Type 0
 On h written line to text = IsFrom to (λ ls. h (line ∷ ls)) (written ++ text)
 

@@ -1,4 +1,4 @@
--- The line that tells that it is the last is `end`.
+-- The line that says that it is the last is `end`.
 use Rattle.std.proofs.Common.{◌≡◌, ℕ, Bool, true, false, List, refl, ap, arith}
 use Rattle.std.specs.Prelude.{Option, None, Some, Ok, codes, if◌then◌else◌}
 use Rattle.sv_base.specs.declared.config.Config.{Config}

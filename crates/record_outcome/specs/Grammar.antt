@@ -19,14 +19,14 @@ use Rattle.record_outcome.specs.Histories.{octets_of, form_at, moment_of, steps_
 use Rattle.record_outcome.specs.Texts.{turns_in}
 use Rattle.record_outcome.specs.Records.{limit, most_lines, NoNewline}
 
--- of the parts of a piece, behind these steps: each step is accepted after those before it
+-- of the parts of a piece, after these steps: each step is accepted after those before it
 abbrev pub AreDone : Config → ℕ → List Heard → History → Type 0
 AreDone c moment [] turns = Unit {0}
 AreDone c moment (Tells text ∷ hs) turns = AreDone c moment hs turns
 AreDone c moment (Makes actor step ∷ hs) turns =
     (fault (configured_model c) turns (record { moment = moment; actor = actor.0; step = step }) ≡ None) × AreDone c moment hs (record { moment = moment; actor = actor.0; step = step } ∷ turns)
 
--- behind these lines: nothing is to be done, or another moment is told, or steps that are accepted
+-- after these lines: nothing is to be done, or another moment is told, or steps that are accepted
 abbrev pub CanBeDone : Config → List (List ℕ) → Told → Type 0
 CanBeDone c before skip = Unit {0}
 CanBeDone c before (pass_to moment) = Unit {0}

@@ -20,7 +20,7 @@ use Rattle.record_steps.specs.Told.{Told, pass_to, turn, heard, refused}
 use Rattle.record_steps.specs.declared.heard.Heard.{Heard}
 use Rattle.record_steps.specs.declared.heard.Heard.TheVariants.{Tells, Makes}
 
--- all pieces but the last, behind which there is no newline
+-- all pieces but the last, after which there is no newline
 abbrev pub ended_pieces : List (List ℕ) → List (List ℕ)
 ended_pieces [] = []
 ended_pieces (piece ∷ []) = []
@@ -30,12 +30,12 @@ ended_pieces (piece ∷ next ∷ more) = piece ∷ ended_pieces (next ∷ more)
 abbrev pub lines_of : List ℕ → List (List ℕ)
 lines_of octets = ended_pieces (slice_split (λ b. b == 10) octets)
 
--- those behind the first that is neither empty nor a remark, which is `record 1`
+-- those after the first that is neither empty nor a remark, which is `record 1`
 abbrev pub behind_heading : List (List ℕ) → List (List ℕ)
 behind_heading [] = []
 behind_heading (line ∷ more) = if is_skipped line then behind_heading more else more
 
--- the lines up to the first that is `end`, with it, and those behind it
+-- the lines up to the first that is `end`, with it, and those after it
 pub record Parted : Type 0 where
   pub configuration : List (List ℕ)
   pub steps : List (List ℕ)
@@ -52,7 +52,7 @@ parted (line ∷ more) = if bytes_eq line (codes "end") then Some (record { conf
 abbrev pub octets_of : List (List ℕ) → List ℕ
 octets_of ls = flat_map (λ line. line ++ 10 ∷ []) ls
 
--- what association a is behind lines: a line that is refused leaves it as it was
+-- what association a is after lines: a line that is refused leaves it as it was
 abbrev pub form_after : ℕ → Result RecLine Kind → Form → Form
 form_after a (Ok line) was = form_behind a line was
 form_after a (Err kind) was = was
@@ -66,7 +66,7 @@ abbrev pub form_of : List (List ℕ) → Result RecLine Kind → Form
 form_of before (Ok line) = form_at (association_of line) before
 form_of before (Err kind) = shut
 
--- what a line tells, behind others
+-- what a line says, after others
 abbrev pub said_in : Config → Form → Result RecLine Kind → Told
 said_in c form (Ok line) = told_of c form line
 said_in c form (Err kind) = refused (number_of kind)

@@ -4,7 +4,7 @@ use Rattle.sv_base.specs.declared.config.Config.{Config}
 use Rattle.record_outcome.specs.Played.{Played}
 use Rattle.record_outcome.specs.declared.status.Status.{Status}
 
--- before the line `record 1`; among the lines of the configuration, whose octets so far these are, behind so many lines; or
+-- before the line `record 1`; among the lines of the configuration, whose octets so far these are, after n lines; or
 -- among the steps of a bay
 pub data Place : Type 0 where
   opening : Place

@@ -27,7 +27,7 @@ opening_at number line =
     else if is_skipped line then goes opening []
     else headed number (words_of line)
 
--- the configuration is whole, behind so many lines
+-- the configuration is whole, after n lines
 abbrev pub started : ℕ → Result Config CfgFault → Move
 started before (Ok c) = goes (playing c start) []
 started before (Err (faults.Refused line kind)) = stops (statuses.Config (before + line) (number_of kind)) []

@@ -1,4 +1,4 @@
--- What is played of a record: its steps so far, the moment of the next one, and what each association is.
+-- What is applied of a record: its steps so far, the moment of the next one, and what each association is.
 use Rattle.std.specs.Prelude.{ℕ, [], ◌∷◌}
 use Rattle.bay_model.specs.declared.step.Step.{Step}
 use Rattle.bay_model.specs.Points.{least_moment}

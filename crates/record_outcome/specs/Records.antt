@@ -23,11 +23,11 @@ most_lines = 1000000
 abbrev pub NoNewline : List ℕ → Type 0
 NoNewline octets = All (λ b. (b == 10) ≡ false) octets
 
--- what ends with a newline, and what is left behind the last one
+-- what ends with a newline, and what is left after the last one
 abbrev pub pieces : List ℕ → List (List ℕ)
 pieces octets = slice_split (λ b. b == 10) octets
 
--- a configuration that isn't whole is refused at its first refused line, which is the one behind the last at the latest
+-- a configuration that isn't whole is refused at its first refused line, which is the one after the last at the latest
 abbrev pub refused_before : ℕ → ℕ → Status → Result Config CfgFault → Status
 refused_before number before status (Err (faults.Refused line kind)) = if before + line == number then status else statuses.Config (before + line) (number_of kind)
 refused_before number before status _ = status
@@ -46,7 +46,7 @@ missing number place = statuses.Record number 7
 abbrev pub has_begun : List ℕ → Bool
 has_begun rest = not (length rest == 0)
 
--- Behind the last newline: where the line with this number has begun and is one too many, the record passes the limit of lines; else
+-- After the last newline: where the line with this number has begun and is one too many, the record passes the limit of lines; else
 -- the line isn't there.
 unfoldable pub unended : Bool → ℕ → Place → Status
 unended begun number place = if begun && nat_lt most_lines number then passed 1 number place else missing number place
@@ -77,7 +77,7 @@ abbrev pub moved : Move → (Place → Outcome) → Outcome
 moved (goes to text) on = behind text (on to)
 moved (stops status text) on = record { status = status; text = text }
 
--- behind so many lines; whether the record passes the limit of octets counts only where no line is left
+-- after n lines; whether the record passes the limit of octets counts only where no line is left
 abbrev pub run : Bool → ℕ → Place → List (List ℕ) → Outcome
 run long count place [] = record { status = ended long false (suc count) place; text = [] }
 run long count place (rest ∷ []) = record { status = ended long (has_begun rest) (suc count) place; text = [] }

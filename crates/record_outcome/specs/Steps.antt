@@ -29,7 +29,7 @@ abbrev pub accepted : ℕ → Config → Played → Shape → Turn → Option Fa
 accepted number c s shape t None = goes (playing c (with_turn s t)) (lines_of c shape t.step (answer (configured_model c) s.turns t))
 accepted number c s shape t (Some fault) = stops (stop_of number fault) []
 
--- The parts of a piece one after another, behind what is answered to those before them. Where a step is refused, nothing of the line
+-- The parts of a piece one after another, after what is answered to those before them. Where a step is refused, nothing of the line
 -- is written.
 abbrev pub then_on : ℕ → Config → (Played → List ℕ → Move) → Played → Shape → List ℕ → Turn → Option Fault → Move
 then_on number c go s shape text t None = go (with_turn s t) (text ++ lines_of c shape t.step (answer (configured_model c) s.turns t))
@@ -54,6 +54,6 @@ abbrev pub told_at : ℕ → Config → Played → Result RecLine Kind → Move
 told_at number c s (Err kind) = stops (statuses.Record number (number_of kind)) []
 told_at number c s (Ok line) = played number c (past_line s line) (shape_of (s.form (association_of line))) (told_of c (s.form (association_of line)) line)
 
--- the line with this number, behind what was played
+-- the line with this number, after what was applied
 unfoldable pub step_at : ℕ → Config → Played → List ℕ → Move
 step_at number c s line = told_at number c s (line_at line)

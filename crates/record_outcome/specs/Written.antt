@@ -16,7 +16,7 @@ use Rattle.record_outcome.specs.declared.status.Status.TheVariants as statuses
 abbrev pub IsAccepted : Recorded → Type 0
 IsAccepted r = IsHistory (configured_model r.config) (turns_in r.steps)
 
--- a step of a record's newest line finds 16 replies waiting for its association, behind what came before it
+-- a step of a record's newest line finds 16 replies waiting for its association, after what came before it
 pub record MeetsFullQueue (r : Recorded) : Type 0 where
   pub later : List Part
   pub turn : Turn
@@ -39,12 +39,12 @@ HasCause which history = which ≡ 2 → MeetsFull history
 abbrev pub HasNoEnd : List (List ℕ) → Type 0
 HasNoEnd ls = All (λ line. bytes_eq line (codes "end") ≡ false) ls
 
--- the configuration is whole, and none of the step lines behind it is `end`
+-- the configuration is whole, and none of the step lines after it is `end`
 abbrev pub IsUnended : Option Recorded → Type 0
 IsUnended None = ⊥
 IsUnended (Some r) = HasNoEnd r.lines
 
--- Behind line k the reading stops with this status: at the first `end` of the steps, behind a whole configuration; at the line
+-- After line k the reading stops with this status: at the first `end` of the steps, after a whole configuration; at the line
 -- that the status names, or in a configuration that is refused; a line that passes limit 2 has a step for it.
 abbrev pub StopsBehind : (List (List ℕ) → Option Recorded) → Status → ℕ → ℕ → List (List ℕ) → Type 0
 StopsBehind history statuses.Ok number k ls = ((rest : List (List ℕ)) × (drop k ls ≡ codes "end" ∷ rest)) × IsUnended (history (take k ls))
@@ -57,7 +57,7 @@ abbrev pub end_of : Status → List ℕ
 end_of statuses.Ok = codes "end\n"
 end_of _ = []
 
--- Of lines, behind others that are so many and to which this was written: up to where the reading stops, the text is that of the
+-- Of lines, after others that are that many and to which this was written: up to where the reading stops, the text is that of the
 -- history, whose steps are accepted.
 pub record IsWritten (history : List (List ℕ) → Option Recorded) (written : List ℕ) (count : ℕ) (ls : List (List ℕ)) (o : Outcome) : Type 0 where
   pub lines : ℕ

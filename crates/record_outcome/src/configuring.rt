@@ -10,7 +10,7 @@ use crate::status::Status;
 use cfg_text::{CfgFault, Kind, read_config};
 use std::alloc::{AllocError, Global};
 
-/// Puts a line of the configuration behind those before it; gives whether it is the last one. Without memory nothing changes.
+/// Puts a line of the configuration after those before it; gives whether it is the last one. Without memory nothing changes.
 pub fn gather(text: &mut Vec<u8>, line: &[u8]) -> Result<bool, AllocError>
     ensures text { OnOk result (text.new.items ≡ text.old.items ++ (line.now ++ 10 ∷ [])) }
     ensures end { IfOk result (λ b. b ≡ bytes_eq line.now (codes "end")) }
@@ -25,7 +25,7 @@ pub fn gather(text: &mut Vec<u8>, line: &[u8]) -> Result<bool, AllocError>
     Ok(line == b"end".as_slice())
 }
 
-/// The status of a configuration that isn't whole before a line, behind so many lines: that of its first refused line, or else
+/// The status of a configuration that isn't whole before a line, after n lines: that of its first refused line, or else
 /// this one.
 pub fn refused_before(
     alloc: Global,
@@ -36,7 +36,8 @@ pub fn refused_before(
 ) -> Result<Status, AllocError>
     requires few { before < 2 ^ 62 }
     requires refusal { IsRefusal status }
-    ensures status { IfOk result (λ s. s ≡ refused_before_number number before status (config_at text.now)) }
+    ensures status { IfOk result (λ s. s ≡ refused_before_number number before status
+        (config_at text.now)) }
     ensures refusal { IfOk result IsRefusal }
     ensures judged { IfOk result IsJudgement }
 {
@@ -56,8 +57,8 @@ pub fn refused_before(
     }
 }
 
-/// The status of a configuration that has no line with this number, behind so many lines: that of its first refused line, or else
-/// that a line is wanting.
+/// The status of a configuration that has no line with this number, after n lines: that of its first refused line, or else
+/// that a line is lacking.
 pub fn ended_before(
     alloc: Global,
     number: u64,
@@ -65,7 +66,8 @@ pub fn ended_before(
     text: &[u8],
 ) -> Result<Status, AllocError>
     requires few { before < 2 ^ 62 }
-    ensures status { IfOk result (λ s. s ≡ refused_before_number number before (Status.Config number 2) (config_at text.now)) }
+    ensures status { IfOk result (λ s. s ≡ refused_before_number number before
+        (Status.Config number 2) (config_at text.now)) }
     ensures refusal { IfOk result IsRefusal }
     ensures judged { IfOk result IsJudgement }
 {

@@ -1,6 +1,7 @@
 //! Laws of records: those of every history, of a record's. What each clause says stands in `specs/Laws.antt`, under its name.
 
-ghost use Rattle.record_outcome.specs.Laws.{RecordsReportNext, RecordsResume, RecordFrontsRise, RecordsRetainWhatFits};
+ghost use Rattle.record_outcome.specs.Laws.{RecordsReportNext, RecordsResume, RecordFrontsRise};
+ghost use Rattle.record_outcome.specs.Laws.{RecordsRetainWhatFits};
 
 /// A client that writes an EntryID in a record is sent the successors that are retained, each once, in order; the first after
 /// unsent entries were discarded is marked.

@@ -9,5 +9,6 @@ ghost use Rattle.record_outcome.specs.Grammar.{IsRecord};
 /// A record of the grammar within the limits is read to its end: its status is Ok. By `texts_are_of_histories` of `record_outcome` it
 /// is answered the text of its history, and `end`.
 pub fn whole_records_are_read_to_their_end()
-    ensures { (octets : List ℕ) (config : Config) → IsRecord octets config → (outcome octets).status ≡ Ok }
+    ensures { (octets : List ℕ) (config : Config) → IsRecord octets config
+        → (outcome octets).status ≡ Ok }
 {}

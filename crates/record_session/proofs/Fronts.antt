@@ -86,12 +86,12 @@ writes-front left now taken told octets more written low eaten took b =
       written = text_is_of_history (octets ++ more);
     }
 
--- what was read so far is answered, and nothing behind it
+-- what was read so far is answered, and nothing after it
 pub run-front : (reader : Reader) (left mid now taken told : Option (List ℕ)) (count : ℕ) (more : List ℕ) → Run reader left mid taken told count → Consumes mid now more → count ≤ limit → WritesFront left now taken told
 run-front reader left mid now taken told count more r eaten low =
     writes-front left now taken told r.octets more r.written (omega (arith, r.counted, low)) (Consumes-trans left mid now r.octets more r.consumed eaten) r.took (fed-begins reader r.octets r.written r.fed)
 
--- and a piece behind it, or a part of it
+-- and a piece after it, or a part of it
 pub piece-front : (reader : Reader) (left mid now taken told then : Option (List ℕ)) (count : ℕ) (piece : List ℕ) → Run reader left mid taken told count → Consumes mid now piece → BeginsOn reader piece told then
     → count + length piece ≤ limit → WritesFront left now taken then
 piece-front reader left mid now taken told then count piece r eaten on low =

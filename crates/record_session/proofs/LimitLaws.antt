@@ -60,7 +60,7 @@ missing-configuring number before text octets status old is same told place at =
   by (configuring b t) at = told ∙ (ap (λ o. refused_before number before (statuses.Config number 2) (config_at o)) (same ∙ at.1) ∙ ap (λ n. refused_before number n (statuses.Config number 2) (config_at t)) at.0)
   by (playing c s) at = absurd at
 
--- among the lines that may be read, and behind them
+-- among the lines that may be read, and after them
 pub over-lines : (status : Status) (old : Stage) (number : ℕ) (line out : List ℕ) → most_lines < number → ((place : Place) → IsAt old place → status ≡ passed 1 number place)
     → AdvancesOn (Some status) old old (λ place. line_at number place line) out out
 unfolding line_at
@@ -73,7 +73,7 @@ unfolding line_at
 below-lines status old new number line before now le on = λ place at.
     subst (λ b. Advances status new (if b then stops (passed 1 number place) [] else lines_at number place line) before now) (sym (not-below most_lines number le)) (on place at)
 
--- behind the last newline
+-- after the last newline
 pub ended-long : (status : Status) (long begun : Bool) (number next : ℕ) (place : Place) → long ≡ true → number ≡ next → status ≡ passed 3 number place → status ≡ ended long begun next place
 unfolding ended
 ended-long status long begun number next place is same told = told ∙ (ap (λ n. passed 3 n place) same ∙ ap (λ l. if l then passed 3 next place else unended begun next place) (sym is))

@@ -1,4 +1,4 @@
--- What a line does, by what it tells.
+-- What a line does, by what it says.
 use Rattle.std.proofs.Common.{◌≡◌, ◌≤◌, ◌<◌, ◌+◌, ◌++◌, ◌∷◌, ◌==◌, ℕ, suc, false, not, List, [], length, get_or, take, drop, drop-cons, sym, ap, subst, refl, ◌∙◌, append-nil, append_assoc, length-append, inl, inr, arith}
 use Rattle.std.proofs.Math.Seq.{take-append_seam}
 use Rattle.std.specs.Fmt.{decimal}
@@ -51,7 +51,7 @@ turn actor moment step = record { moment = moment; actor = actor; step = step }
 
 -- ---- what a line makes of the associations
 
--- what is kept of the associations behind a line: of its own what that is then, and of each other what was
+-- what is kept of the associations after a line: of its own what that is then, and of each other what was
 pub passes-line : (old mid : Playing) (line : RecLine) (k : ℕ) → mid.bay ≡ old.bay → mid.moment ≡ old.moment → ((a : ℕ) → (k == a) ≡ false → form_in mid.forms a ≡ form_in old.forms a) → k ≡ association_of line
     → ((f : Form) → Stands (form_in old.forms k) f → Stands (form_in mid.forms k) (form_behind (association_of line) line f)) → (c : Config) (s : Played) → Plays old c s → Plays mid c (past_line s line)
 passes-line old mid line k bay moment others names stands c s p = record {
@@ -113,7 +113,7 @@ faultless-answered old actor step given bay does c s p =
 
 -- ---- the parts of a piece
 
--- a step of one is performed
+-- a step of one is applied
 pub does-step : (status : Option Status) (old new : Playing) (number : ℕ) (shape : Shape) (actor : ActorNo) (step : Step) (before now : List ℕ) → Performs status old new number shape actor.0 step before now
     → DoesPart status old new number shape (Makes actor step) before now
 does-step None old new number shape actor step before now h = h
@@ -145,7 +145,7 @@ module _ (all : List Heard) (i : ℕ) (part : Heard) (there : i < length all) (i
     by (Tells text) = omega arith
     by (Makes actor step) = omega arith
 
--- of all parts those before these were done: what is played so far, and the text so far
+-- of all parts those before these were done: what is applied so far, and the text so far
 abbrev pub DoneSo : Playing → Playing → ℕ → Shape → (all rest : List Heard) → (before now : List ℕ) → Type 0
 DoneSo old here number shape all rest before now = (c : Config) (s : Played) → Plays old c s
     → (mid : Played) × (text : List ℕ) × Plays here c mid × (now ≡ before ++ text) × (heard_on number c shape all s [] ≡ heard_on number c shape rest mid text)
@@ -201,7 +201,7 @@ ready-parts : (c : Config) (hs : List Heard) → AllByRecursion (IsFittingPart c
 ready-parts c [] fit = tt
 ready-parts c (h ∷ hs) fit = (ready-part c h fit.0, ready-parts c hs fit.1)
 
--- what a line tells fits
+-- what a line says fits
 pub told-ready : (c : Config) (form : Form) (line : RecLine) (told : told_as.Told) (slot : Step) (hs : List Heard) → telling told slot hs ≡ told_of c form line → AllByRecursion (IsFittingPart c) hs → IsReady c told slot hs
 told-ready c form line (tolds.Step actor) slot hs is fit =
     (told-own c (λ a. not (is_shut form)) form actor.0 slot line refl (sym is)).1
@@ -282,7 +282,7 @@ module _ (old : Playing) (number : ℕ) (shape : Shape) (slot : Step) (heard : L
 
 -- ---- a line
 
--- its association passes it, and then what it tells is done
+-- its association passes it, and then what it says is done
 pub plays-line : (old mid new : Playing) (number : ℕ) (line : RecLine) (form : programs.Form) (shape : Shape) (told : told_as.Told) (slot : Step) (heard : List Heard) (stop : Option Status) (model : Config) (before now : List ℕ)
     → ((c : Config) (s : Played) → Plays old c s → Plays mid c (past_line s line)) → form ≡ form_in old.forms (association_of line) → shape ≡ shape_of (plain form) → model ≡ mid.bay.config
     → ((f : Form) → Stands form f → telling told slot heard ≡ told_of model f line) → PlaysSlot stop mid new number shape told slot heard before now → PlaysOn stop old new (plays_told number line) before now
@@ -293,7 +293,7 @@ plays-line old mid new number line form shape told slot heard stop model before 
     subst (λ t. PlaysTo stop new (played number c (past_line s line) (shape_of (s.form (association_of line))) t) before now) t
     (subst (λ h. PlaysTo stop new (played number c (past_line s line) h (telling told slot heard)) before now) (shaped ∙ shape-plain form (s.form (association_of line)) stands) (plays c (past_line s line) q))
 
--- a line that tells something, and one that is refused
+-- a line that says something, and one that is refused
 module _ (old new : Playing) (number : ℕ) (text before now : List ℕ) where
   pub reads-told : (stop : Option Status) (line : RecLine) → line_at text ≡ Ok line → PlaysOn stop old new (plays_told number line) before now → PlaysOn stop old new (λ c s. step_at number c s text) before now
   unfolding step_at

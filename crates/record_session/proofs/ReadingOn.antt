@@ -55,7 +55,7 @@ reads-on stop old new line before now none count on = λ so_far written r. by st
 pub reads-none : (session : Session) → IsAt session.stage opening → session.lines ≡ 0 → Reads session [] []
 reads-none session is count = record { place = opening; is_at = is; same = λ long more. ap (λ n. run long n opening (pieces more)) (sym count) }
 
--- no line is left behind those that were read
+-- no line is left after those that were read
 pub fed-ends : (reader : Reader) (octets written : List ℕ) (long : Bool) (status : Status) → Fed reader octets written → NoNewline reader.held.items
     → ((place : Place) → IsAt reader.session.stage place → status ≡ ended long (has_begun reader.held.items) (suc reader.session.lines) place) → run long 0 opening (pieces octets) ≡ record { status = status; text = written }
 fed-ends reader octets written long status f part is =

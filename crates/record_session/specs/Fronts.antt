@@ -12,7 +12,7 @@ use Rattle.record_session.specs.declared.reader.Reader.{Reader}
 use Rattle.record_session.specs.declared.replay.Replay.{Replay}
 
 -- These octets were taken from the source, and the sink took a front of the answers to them, up to where the reading of them stops:
--- of the text of the history of their lines, and of `end` behind it, where it is the line that stops the reading.
+-- of the text of the history of their lines, and of `end` after it, where it is the line that stops the reading.
 pub record WritesFront (left now old new : Option (List ℕ)) : Type 0 where
   pub octets : List ℕ
   pub taken : Consumes left now octets
@@ -33,6 +33,6 @@ pub record BeginsTo (octets written : List ℕ) (before now : Option (List ℕ))
 abbrev pub BeginsOn : Reader → List ℕ → Option (List ℕ) → Option (List ℕ) → Type 0
 BeginsOn reader piece before now = (so_far written : List ℕ) → Fed reader so_far written → BeginsTo (so_far ++ piece) written before now
 
--- behind what was read so far
+-- after what was read so far
 abbrev pub FrontsOn : Replay → (mid now told then : Option (List ℕ)) → Type 0
 FrontsOn replay mid now told then = (left taken : Option (List ℕ)) → Run replay.reader left mid taken told replay.count → WritesFront left now taken then

@@ -26,13 +26,13 @@ use Rattle.record_session.specs.declared.starting.Started.{Started}
 use Rattle.record_session.specs.declared.starting.Started.TheVariants as starteds
 use Rattle.record_outcome.specs.declared.status.Status.{Status}
 
--- the bay and the moment are those of what was played, and what is kept of the associations stands for them
+-- the bay and the moment are those of what was applied, and what is kept of the associations stands for them
 pub record Plays (p : Playing) (c : Config) (s : Played) : Type 0 where
   pub moment : p.moment ≡ s.moment
   pub stands : StandsFor p.bay c s.turns
   pub forms : (a : ℕ) → Stands (form_in p.forms a) (s.form a)
 
--- what is played, or the status with which the reading stops, is what a line does
+-- what is applied, or the status with which the reading stops, is what a line does
 abbrev pub PlaysTo : Option Status → Playing → Move → List ℕ → List ℕ → Type 0
 PlaysTo None new (goes (playing c s) text) before now = Plays new c s × (now ≡ before ++ text)
 PlaysTo (Some status) new (stops told text) before now = (status ≡ told) × (now ≡ before ++ text)
@@ -46,13 +46,13 @@ abbrev pub Performs : Option Status → Playing → Playing → ℕ → Shape �
 Performs status old new number shape actor step before now =
     PlaysOn status old new (λ c s. accepted number c s shape (turn_at s actor step) (fault (configured_model c) s.turns (turn_at s actor step))) before now
 
--- a part of a piece is done: its text is written, or its step performed
+-- a part of a piece is done: its text is written, or its step applied
 abbrev pub DoesPart : Option Status → Playing → Playing → ℕ → Shape → Heard → List ℕ → List ℕ → Type 0
 DoesPart None old new number shape (Tells text) before now = (new ≡ old) × (now ≡ before ++ text)
 DoesPart (Some status) old new number shape (Tells text) before now = ⊥
 DoesPart status old new number shape (Makes actor step) before now = Performs status old new number shape actor.0 step before now
 
--- and parts one after another, behind nothing
+-- and parts one after another, after nothing
 abbrev pub DoesParts : Option Status → Playing → Playing → ℕ → Shape → List Heard → List ℕ → List ℕ → Type 0
 DoesParts status old new number shape heard before now = PlaysOn status old new (λ c s. heard_on number c shape heard s []) before now
 

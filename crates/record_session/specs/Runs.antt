@@ -17,7 +17,7 @@ pub record IsReady (replay : Replay) : Type 0 where
   pub within : replay.count ≤ limit
   pub empty : replay.out.items ≡ []
 
--- from what was left at first so many octets were read, and the sink took the answers to them
+-- from what was left at first n octets were read, and the sink took the answers to them
 pub record Run (reader : Reader) (left now taken told : Option (List ℕ)) (count : ℕ) : Type 0 where
   pub octets : List ℕ
   pub written : List ℕ

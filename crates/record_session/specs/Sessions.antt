@@ -36,7 +36,7 @@ abbrev pub OpensOn : Option Status → Stage → Move → Type 0
 OpensOn None new move = (place : Place) × IsAt new place × (move ≡ goes place [])
 OpensOn (Some status) new move = move ≡ stops status []
 
--- behind it
+-- after it
 abbrev pub Settles : Option Status → Stage → Move → Type 0
 Settles None new (goes place text) = IsAt new place × (text ≡ [])
 Settles (Some status) new (stops told text) = (status ≡ told) × (text ≡ [])

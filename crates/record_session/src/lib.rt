@@ -1,4 +1,4 @@
-//! The replay of a record: its octets are read in pieces and cut into lines, whose steps are performed on a bay.
+//! The replay of a record: its octets are read in pieces and cut into lines, whose steps are applied to a bay.
 #![tactic(auto)]
 
 // all of it: pieces from a source, and the answers to a sink

@@ -1,4 +1,4 @@
-//! The steps of a record, performed on a bay.
+//! The steps of a record, applied to a bay.
 
 ghost use Rattle.std.specs.Prelude.{◌≡◌, ◌≤◌, IfSome};
 ghost use Rattle.run_record.specs.Grammar.{IsLine};
@@ -19,7 +19,7 @@ use std::alloc::{AllocError, Global};
 use stream_lines::Shape;
 use sv_base::{ActorNo, AssocNo, Moment};
 
-/// The status of a line whose step is refused; none where memory is wanting.
+/// The status of a line whose step is refused; none when out of memory.
 fn stop(number: u64, fault: StepFault) -> Option<Status>
     ensures status { result ≡ option_map (stop_of number) (named fault) }
     ensures judged { IfSome result IsJudgement }
@@ -68,7 +68,8 @@ pub struct Playing {
 }
 
 impl Playing {
-    ghost use Rattle.std.specs.Prelude.{◌≡◌, ◌≤◌, ◌<◌, ◌+◌, ◌^◌, suc, true, [], ◌∷◌, length, None, IfOk, IfSome, IfNone, OnErr};
+    ghost use Rattle.std.specs.Prelude.{◌≡◌, ◌≤◌, ◌<◌, ◌+◌, ◌^◌, suc, true, [], ◌∷◌, length, None};
+    ghost use Rattle.std.specs.Prelude.{IfOk, IfSome, IfNone, OnErr};
     ghost use Rattle.std.specs.List.{AllByRecursion};
     ghost use Rattle.sv_base.specs.declared.config.Config.{Config};
     ghost use Rattle.bay_model.specs.Named.{configured_model};
@@ -82,7 +83,9 @@ impl Playing {
     ghost use Rattle.record_steps.specs.Telling.{most_steps};
     ghost use Rattle.record_outcome.specs.Played.{Played, start, turn_at};
     ghost use Rattle.record_outcome.specs.Steps.{step_at};
-    ghost use Rattle.record_session.specs.Plays.{Plays, PlaysOn, PlaysSlot, Performs, DoesPart, DoesParts, IsReadyPart, IsReady, most_of, plays_told};
+    ghost use Rattle.record_session.specs.Plays.{Plays, PlaysOn, PlaysSlot, Performs, DoesPart};
+    ghost use Rattle.record_session.specs.Plays.{DoesParts, IsReadyPart, IsReady, most_of};
+    ghost use Rattle.record_session.specs.Plays.{plays_told};
     ghost use Rattle.record_outcome.specs.Judgements.{IsJudgement};
 
     /// A bay before its first step, where no association is open.
@@ -103,7 +106,7 @@ impl Playing {
     }
 
     /// Performs the step of a line, and writes the answer to it in this shape; or gives the status with which the reading
-    /// stops. A step that comes to nothing has no fault, so memory alone may be wanting.
+    /// stops. A step that comes to nothing has no fault, so memory alone may be lacking.
     fn perform(
         &mut self,
         alloc: Global,
@@ -116,7 +119,9 @@ impl Playing {
         requires fits { fits self.old.bay.config step.now ≡ true }
         requires shape { IsShape shape }
         requires few { self.old.bay.steps < 2 ^ 62 }
-        ensures performs { IfOk result (λ s. Performs s self.old self.new number shape actor.0 step.now out.old.items out.new.items) }
+        ensures performs { IfOk result
+            (λ s. Performs s self.old self.new number shape actor.0 step.now out.old.items
+            out.new.items) }
         ensures judged { IfOk result (λ s. IfSome s IsJudgement) }
         ensures faultless { OnErr result ((c : Config) (s : Played) → Plays self.old c s
             → fault (configured_model c) s.turns (turn_at s actor.0 step.now) ≡ None) }
@@ -142,7 +147,7 @@ impl Playing {
         }
     }
 
-    /// Does a part of a piece behind those before it: writes what the stack answers, or performs a step; or gives the status with
+    /// Does a part of a piece after those before it: writes what the stack answers, or applies a step; or gives the status with
     /// which the reading stops.
     fn do_part(
         &mut self,
@@ -155,9 +160,11 @@ impl Playing {
         requires ready { IsReadyPart self.old.bay.config part.now }
         requires shape { IsShape shape }
         requires few { self.old.bay.steps < 2 ^ 62 }
-        ensures does { IfOk result (λ s. DoesPart s self.old self.new number shape part.now out.old.items out.new.items) }
+        ensures does { IfOk result
+            (λ s. DoesPart s self.old self.new number shape part.now out.old.items out.new.items) }
         ensures judged { IfOk result (λ s. IfSome s IsJudgement) }
-        ensures few { IfOk result (λ s. IfNone s (self.new.bay.steps ≤ self.old.bay.steps + made (part.now ∷ []))) }
+        ensures few { IfOk result (λ s. IfNone s (self.new.bay.steps ≤ self.old.bay.steps + made
+            (part.now ∷ []))) }
         ensures same { IfOk result (λ s. IfNone s (self.new.bay.config ≡ self.old.bay.config)) }
     {
         match part {
@@ -170,7 +177,7 @@ impl Playing {
     }
 
     /// Does the parts of a piece one after another; where a step is refused, what was written of them is taken back. It stays a call,
-    /// so that no other line pays for its room.
+    /// so that no other line pays for its memory.
     #[inline(never)]
     fn do_parts(
         &mut self,
@@ -183,9 +190,12 @@ impl Playing {
         requires ready { AllByRecursion (IsReadyPart self.old.bay.config) heard.now }
         requires shape { IsShape shape }
         requires few { self.old.bay.steps + made heard.now < 2 ^ 62 }
-        ensures does { IfOk result (λ s. DoesParts s self.old self.new number shape heard.now out.old.items out.new.items) }
+        ensures does { IfOk result
+            (λ s. DoesParts s self.old self.new number shape heard.now out.old.items
+            out.new.items) }
         ensures judged { IfOk result (λ s. IfSome s IsJudgement) }
-        ensures few { IfOk result (λ s. IfNone s (self.new.bay.steps ≤ self.old.bay.steps + made heard.now)) }
+        ensures few { IfOk result
+            (λ s. IfNone s (self.new.bay.steps ≤ self.old.bay.steps + made heard.now)) }
     {
         let before = out.len();
         for part in heard {
@@ -212,9 +222,12 @@ impl Playing {
         requires ready { IsReady self.old.bay.config told slot.now heard.now }
         requires shape { IsShape shape }
         requires few { self.old.bay.steps + most_of told heard.now < 2 ^ 62 }
-        ensures plays { IfOk result (λ s. PlaysSlot s self.old self.new number shape told slot.now heard.now out.old.items out.new.items) }
+        ensures plays { IfOk result
+            (λ s. PlaysSlot s self.old self.new number shape told slot.now heard.now out.old.items
+            out.new.items) }
         ensures judged { IfOk result (λ s. IfSome s IsJudgement) }
-        ensures few { IfOk result (λ s. IfNone s (self.new.bay.steps ≤ self.old.bay.steps + most_of told heard.now)) }
+        ensures few { IfOk result
+            (λ s. IfNone s (self.new.bay.steps ≤ self.old.bay.steps + most_of told heard.now)) }
     {
         match told {
             Told::Nothing => Ok(None),
@@ -235,7 +248,7 @@ impl Playing {
         }
     }
 
-    /// Does what a line tells, whose step is made in a slot, and writes the answer to it; or gives the status with which the reading stops.
+    /// Does what a line says, whose step is made in a slot, and writes the answer to it; or gives the status with which the reading stops.
     fn play(
         &mut self,
         alloc: Global,
@@ -246,9 +259,12 @@ impl Playing {
     ) -> Result<Option<Status>, AllocError>
         requires ranges { IsLine (line_seen line.now) }
         requires few { self.old.bay.steps + most_steps (line_seen line.now) < 2 ^ 62 }
-        ensures plays { IfOk result (λ s. PlaysOn s self.old self.new (plays_told number (line_seen line.now)) out.old.items out.new.items) }
+        ensures plays { IfOk result (λ s. PlaysOn s self.old self.new
+            (plays_told number (line_seen line.now)) out.old.items out.new.items) }
         ensures judged { IfOk result (λ s. IfSome s IsJudgement) }
-        ensures few { IfOk result (λ s. IfNone s (self.new.bay.steps ≤ self.old.bay.steps + most_steps (line_seen line.now))) }
+        ensures few { IfOk result
+            (λ s. IfNone s (self.new.bay.steps ≤ self.old.bay.steps + most_steps
+            (line_seen line.now))) }
     {
         let a = number_in(line);
         let shape = self.forms.shape(a);
@@ -270,9 +286,11 @@ impl Playing {
         kept: &mut Step,
     ) -> Result<Option<Status>, AllocError>
         requires few { self.old.bay.steps + length line.now < 2 ^ 61 }
-        ensures plays { IfOk result (λ s. PlaysOn s self.old self.new (λ c p. step_at number c p line.now) out.old.items out.new.items) }
+        ensures plays { IfOk result (λ s. PlaysOn s self.old self.new
+            (λ c p. step_at number c p line.now) out.old.items out.new.items) }
         ensures judged { IfOk result (λ s. IfSome s IsJudgement) }
-        ensures few { IfOk result (λ s. IfNone s (self.new.bay.steps ≤ suc (self.old.bay.steps + length line.now))) }
+        ensures few { IfOk result
+            (λ s. IfNone s (self.new.bay.steps ≤ suc (self.old.bay.steps + length line.now))) }
     {
         match view_line(line) {
             Ok(line) => {

@@ -1,4 +1,4 @@
-//! The whole lines of pieces, and the part of a line behind them.
+//! The whole lines of pieces, and the part of a line after them.
 
 ghost use Rattle.std.specs.Prelude.{◌<◌, ◌≤◌, ◌+◌, ◌^◌, length, IfOk, IfSome, IfNone};
 ghost use Rattle.record_session.specs.Sessions.{LinesRead, steps_in, IsEarly};
@@ -19,11 +19,15 @@ fn read_lines<'a>(
     requires few { steps_in session.old.stage + length octets.now < 2 ^ 61 }
     requires early { IsEarly session.old.stage }
     requires lines { session.old.lines + length octets.now < 2 ^ 61 }
-    ensures read { IfOk result (λ r. LinesRead r.0 r.1.now session.old session.new octets.now out.old.items out.new.items) }
+    ensures read { IfOk result
+        (λ r. LinesRead r.0 r.1.now session.old session.new octets.now out.old.items
+        out.new.items) }
     ensures judged { IfOk result (λ r. IfSome r.0 IsJudgement) }
-    ensures few { IfOk result (λ r. IfNone r.0 (steps_in session.new.stage + length r.1.now ≤ steps_in session.old.stage + length octets.now)) }
+    ensures few { IfOk result (λ r. IfNone r.0 (steps_in session.new.stage + length r.1.now
+        ≤ steps_in session.old.stage + length octets.now)) }
     ensures early { IfOk result (λ r. IfNone r.0 (IsEarly session.new.stage)) }
-    ensures lines { IfOk result (λ r. session.new.lines + length r.1.now ≤ session.old.lines + length octets.now) }
+    ensures lines { IfOk result (λ r. session.new.lines + length r.1.now
+        ≤ session.old.lines + length octets.now) }
 {
     let mut rest = octets;
     while let Some((line, after)) = split_line(rest) {
@@ -35,7 +39,7 @@ fn read_lines<'a>(
     Ok((None, rest))
 }
 
-/// What has been read of a record, piece by piece: the session of its whole lines, and the part of a line behind them.
+/// What has been read of a record, piece by piece: the session of its whole lines, and the part of a line after them.
 #[derive(Drop)]
 pub struct Reader {
     session: Session,
@@ -43,7 +47,8 @@ pub struct Reader {
 }
 
 impl Reader {
-    ghost use Rattle.std.specs.Prelude.{◌≡◌, ◌<◌, ◌≤◌, ◌+◌, ◌^◌, [], suc, length, IfOk, IfSome, IfNone, OnOk};
+    ghost use Rattle.std.specs.Prelude.{◌≡◌, ◌<◌, ◌≤◌, ◌+◌, ◌^◌, [], suc, length, IfOk, IfSome};
+    ghost use Rattle.std.specs.Prelude.{IfNone, OnOk};
     ghost use Rattle.record_outcome.specs.Moves.{Place};
     ghost use Rattle.record_outcome.specs.Records.{has_begun, ended as ended_at, NoNewline};
     ghost use Rattle.record_session.specs.Sessions.{Fed, Feeds, IsAt, steps_in, IsEarly};
@@ -68,13 +73,14 @@ impl Reader {
         requires early { IsEarly self.now.session.stage }
         requires lines { self.now.session.lines < 2 ^ 61 }
         ensures status { IfOk result (λ s. (place : Place) → IsAt self.now.session.stage place
-            → s ≡ ended_at long (has_begun self.now.held.items) (suc self.now.session.lines) place) }
+            → s ≡ ended_at long (has_begun self.now.held.items)
+            (suc self.now.session.lines) place) }
         ensures judged { IfOk result IsJudgement }
     {
         self.session.ended(alloc, long, !self.held.is_empty())
     }
 
-    /// Feeds a piece behind whole lines.
+    /// Feeds a piece after whole lines.
     fn feed_lines(
         &mut self,
         alloc: Global,
@@ -85,13 +91,16 @@ impl Reader {
         requires early { IsEarly self.old.session.stage }
         requires lines { self.old.session.lines + length piece.now < 2 ^ 61 }
         requires none { self.old.held.items ≡ [] }
-        ensures feeds { IfOk result (λ stop. Feeds stop self.old self.new piece.now out.old.items out.new.items) }
+        ensures feeds { IfOk result
+            (λ stop. Feeds stop self.old self.new piece.now out.old.items out.new.items) }
         ensures judged { IfOk result (λ stop. IfSome stop IsJudgement) }
         ensures part { OnOk result (NoNewline self.new.held.items) }
-        ensures few { IfOk result (λ stop. IfNone stop (steps_in self.new.session.stage + length self.new.held.items
+        ensures few { IfOk result
+            (λ stop. IfNone stop (steps_in self.new.session.stage + length self.new.held.items
             ≤ steps_in self.old.session.stage + length piece.now)) }
         ensures early { IfOk result (λ stop. IfNone stop (IsEarly self.new.session.stage)) }
-        ensures lines { OnOk result (self.new.session.lines ≤ self.old.session.lines + length piece.now) }
+        ensures lines { OnOk result (self.new.session.lines
+            ≤ self.old.session.lines + length piece.now) }
     {
         let (stop, rest) = read_lines(alloc, &mut self.session, out, piece)?;
         match stop {
@@ -110,17 +119,21 @@ impl Reader {
         out: &mut Vec<u8>,
         piece: &[u8],
     ) -> Result<Option<Status>, AllocError>
-        requires few { steps_in self.old.session.stage + length self.old.held.items + length piece.now < 2 ^ 61 }
+        requires few { steps_in self.old.session.stage + length self.old.held.items + length
+            piece.now < 2 ^ 61 }
         requires early { IsEarly self.old.session.stage }
         requires lines { self.old.session.lines + length piece.now < 2 ^ 61 }
         requires part { NoNewline self.old.held.items }
-        ensures feeds { IfOk result (λ stop. Feeds stop self.old self.new piece.now out.old.items out.new.items) }
+        ensures feeds { IfOk result
+            (λ stop. Feeds stop self.old self.new piece.now out.old.items out.new.items) }
         ensures judged { IfOk result (λ stop. IfSome stop IsJudgement) }
         ensures part { OnOk result (NoNewline self.new.held.items) }
-        ensures few { IfOk result (λ stop. IfNone stop (steps_in self.new.session.stage + length self.new.held.items
+        ensures few { IfOk result
+            (λ stop. IfNone stop (steps_in self.new.session.stage + length self.new.held.items
             ≤ steps_in self.old.session.stage + length self.old.held.items + length piece.now)) }
         ensures early { IfOk result (λ stop. IfNone stop (IsEarly self.new.session.stage)) }
-        ensures lines { OnOk result (self.new.session.lines ≤ self.old.session.lines + length piece.now) }
+        ensures lines { OnOk result (self.new.session.lines
+            ≤ self.old.session.lines + length piece.now) }
     {
         if self.held.is_empty() {
             return self.feed_lines(alloc, out, piece);

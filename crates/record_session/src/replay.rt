@@ -1,6 +1,7 @@
 //! A replay: a record is read in pieces, and the answers are handed on.
 
-ghost use Rattle.std.specs.Prelude.{◌≡◌, ◌≢◌, ◌≤◌, ◌<◌, ◌+◌, ◌-◌, ◌^◌, ℕ, List, [], suc, length, Option, IfOk, IfSome, IfNone, OnOk, OnErr};
+ghost use Rattle.std.specs.Prelude.{◌≡◌, ◌≢◌, ◌≤◌, ◌<◌, ◌+◌, ◌-◌, ◌^◌, ℕ, List, [], suc, length};
+ghost use Rattle.std.specs.Prelude.{Option, IfOk, IfSome, IfNone, OnOk, OnErr};
 ghost use Rattle.std.specs.Io.KnownBytes.{Appends};
 ghost use Rattle.sv_io.specs.Causes.{HasCause, Rose, GrowsByFront};
 ghost use Rattle.record_outcome.specs.Records.{NoNewline, has_begun, ended};
@@ -22,7 +23,8 @@ use sv_io::{Failed, Sink, Source, read_piece};
 /// Hands what was written to the sink.
 fn flush<K: Sink>(out: &mut Vec<u8>, sink: &mut K) -> Result<(), Failed>
     ensures taken { OnOk result (Appends (K.taken sink.old) (K.taken sink.new) out.old.items) }
-    ensures front { OnErr result (GrowsByFront (K.taken sink.old) (K.taken sink.new) out.old.items) }
+    ensures front { OnErr result (GrowsByFront (K.taken sink.old)
+        (K.taken sink.new) out.old.items) }
     ensures empty { OnOk result (out.new.items ≡ []) }
     ensures cause { HasCause (K.faults sink.old) (K.faults sink.new) result }
 {
@@ -53,19 +55,23 @@ fn take_piece<K: Sink>(
     piece: &[u8],
     sink: &mut K,
 ) -> Result<Option<Status>, Halt>
-    requires few { steps_in reader.old.session.stage + length reader.old.held.items + length piece.now < 2 ^ 61 }
+    requires few { steps_in reader.old.session.stage + length reader.old.held.items + length
+        piece.now < 2 ^ 61 }
     requires early { IsEarly reader.old.session.stage }
     requires lines { reader.old.session.lines + length piece.now < 2 ^ 61 }
     requires part { NoNewline reader.old.held.items }
     requires empty { out.old.items ≡ [] }
-    ensures takes { IfOk result (λ stop. Takes stop reader.old reader.new piece.now (K.taken sink.old) (K.taken sink.new)) }
+    ensures takes { IfOk result (λ stop. Takes stop reader.old reader.new piece.now
+        (K.taken sink.old) (K.taken sink.new)) }
     ensures front { BeginsOn reader.old piece.now (K.taken sink.old) (K.taken sink.new) }
     ensures judged { IfOk result (λ stop. IfSome stop IsJudgement) }
     ensures part { OnOk result (NoNewline reader.new.held.items) }
-    ensures few { IfOk result (λ stop. IfNone stop (steps_in reader.new.session.stage + length reader.new.held.items
+    ensures few { IfOk result
+        (λ stop. IfNone stop (steps_in reader.new.session.stage + length reader.new.held.items
         ≤ steps_in reader.old.session.stage + length reader.old.held.items + length piece.now)) }
     ensures early { IfOk result (λ stop. IfNone stop (IsEarly reader.new.session.stage)) }
-    ensures lines { OnOk result (reader.new.session.lines ≤ reader.old.session.lines + length piece.now) }
+    ensures lines { OnOk result (reader.new.session.lines
+        ≤ reader.old.session.lines + length piece.now) }
     ensures empty { OnOk result (out.new.items ≡ []) }
     ensures later { K.faults sink.old ≤ K.faults sink.new }
     ensures cause { result ≡ Err Halt.Write → Rose (K.faults sink.old) (K.faults sink.new) }
@@ -84,7 +90,8 @@ fn end(alloc: Global, reader: &Reader, long: bool) -> Status
     requires early { IsEarly reader.now.session.stage }
     requires lines { reader.now.session.lines < 2 ^ 61 }
     ensures status { IsJudgement result → (place : Place) → IsAt reader.now.session.stage place
-        → result ≡ ended long (has_begun reader.now.held.items) (suc reader.now.session.lines) place }
+        → result ≡ ended long (has_begun reader.now.held.items)
+        (suc reader.now.session.lines) place }
     ensures listed { IsOfReplay result }
     ensures read { result ≢ Status.ReadFault }
     ensures write { result ≢ Status.WriteFault }
@@ -95,7 +102,7 @@ fn end(alloc: Global, reader: &Reader, long: bool) -> Status
     }
 }
 
-/// A replay of a record: what was read, how many octets, and room for the answers to a piece.
+/// A replay of a record: what was read, how many octets, and memory for the answers to a piece.
 #[derive(Drop)]
 pub struct Replay {
     reader: Reader,
@@ -104,7 +111,8 @@ pub struct Replay {
 }
 
 impl Replay {
-    ghost use Rattle.std.specs.Prelude.{◌≡◌, ◌≢◌, ◌≤◌, ◌<◌, ◌-◌, ℕ, List, Option, None, length, IfNone, IfSome};
+    ghost use Rattle.std.specs.Prelude.{◌≡◌, ◌≢◌, ◌≤◌, ◌<◌, ◌-◌, ℕ, List, Option, None, length};
+    ghost use Rattle.std.specs.Prelude.{IfNone, IfSome};
     ghost use Rattle.std.specs.Bool.{MatchBool};
     ghost use Rattle.sv_io.specs.Causes.{Rose};
     ghost use Rattle.record_session.specs.Runs.{IsReady, Run, Turns};
@@ -117,7 +125,8 @@ impl Replay {
     pub fn new(alloc: Global) -> Replay
         ensures ready { IsReady result }
         ensures count { result.count ≡ 0 }
-        ensures run { (left taken : Option (List ℕ)) → Run result.reader left left taken taken result.count }
+        ensures run { (left taken : Option (List ℕ))
+            → Run result.reader left left taken taken result.count }
     {
         Replay {
             reader: Reader::new(alloc),
@@ -145,16 +154,23 @@ impl Replay {
         requires ready { IsReady self.old }
         requires some { 0 < length piece.old }
         requires room { self.old.count < 67108864 }
-        ensures turns { Turns result self.old self.new (S.left source.old) (S.left source.new) (K.taken sink.old) (K.taken sink.new) }
-        ensures front { FrontsOn self.old (S.left source.old) (S.left source.new) (K.taken sink.old) (K.taken sink.new) }
+        ensures turns { Turns result self.old self.new (S.left source.old) (S.left source.new)
+            (K.taken sink.old) (K.taken sink.new) }
+        ensures front { FrontsOn self.old (S.left source.old) (S.left source.new) (K.taken sink.old)
+            (K.taken sink.new) }
         ensures ready { IfNone result (IsReady self.new) }
         ensures further { IfNone result (self.old.count < self.new.count) }
-        ensures taken { TakesAtMost (67108864 - self.old.count) (S.left source.old) (S.left source.new) }
-        ensures counted { IfNone result (TakesAtMost (self.new.count - self.old.count) (S.left source.old) (S.left source.new)) }
+        ensures taken { TakesAtMost (67108864 - self.old.count) (S.left source.old)
+            (S.left source.new) }
+        ensures counted { IfNone result (TakesAtMost (self.new.count - self.old.count)
+            (S.left source.old) (S.left source.new)) }
         ensures listed { IfSome result IsOfReplay }
-        ensures read { result ≡ Some statuses.ReadFault → Rose (S.faults source.old) (S.faults source.new) }
-        ensures write { result ≡ Some statuses.WriteFault → Rose (K.faults sink.old) (K.faults sink.new) }
-        ensures later { (S.faults source.old ≤ S.faults source.new) × (K.faults sink.old ≤ K.faults sink.new) }
+        ensures read { result ≡ Some statuses.ReadFault
+            → Rose (S.faults source.old) (S.faults source.new) }
+        ensures write { result ≡ Some statuses.WriteFault
+            → Rose (K.faults sink.old) (K.faults sink.new) }
+        ensures later { (S.faults source.old ≤ S.faults source.new)
+            × (K.faults sink.old ≤ K.faults sink.new) }
     {
         let room = (MOST_OCTETS - self.count).min(piece.len());
         let length = match read_piece(source, piece, room) {
@@ -181,16 +197,19 @@ impl Replay {
         }
     }
 
-    /// The status where the limit of octets is reached, with no whole line behind those that were read.
+    /// The status where the limit of octets is reached, with no whole line after those that were read.
     pub fn at_limit<S: Source>(&self, alloc: Global, source: &mut S) -> Status
         requires ready { IsReady self.now }
         requires full { 67108864 ≤ self.now.count }
-        ensures told { (left taken told : Option (List ℕ)) → Run self.now.reader left (S.left source.old) taken told self.now.count
+        ensures told { (left taken told : Option (List ℕ))
+            → Run self.now.reader left (S.left source.old) taken told self.now.count
             → IsJudgement result → IfSome left (λ b. Answers b result taken told) }
-        ensures front { (told : Option (List ℕ)) → FrontsOn self.now (S.left source.old) (S.left source.new) told told }
+        ensures front { (told : Option (List ℕ))
+            → FrontsOn self.now (S.left source.old) (S.left source.new) told told }
         ensures listed { IsOfReplay result }
         ensures taken { TakesAtMost 1 (S.left source.old) (S.left source.new) }
-        ensures read { result ≡ statuses.ReadFault → Rose (S.faults source.old) (S.faults source.new) }
+        ensures read { result ≡ statuses.ReadFault
+            → Rose (S.faults source.old) (S.faults source.new) }
         ensures write { result ≢ statuses.WriteFault }
         ensures later { S.faults source.old ≤ S.faults source.new }
     {
@@ -212,14 +231,18 @@ fn run<S: Source, K: Sink>(
 ) -> Status
     requires ready { IsReady replay.old }
     requires some { 0 < length piece.old }
-    ensures told { (left taken : Option (List ℕ)) → Run replay.old.reader left (S.left source.old) taken (K.taken sink.old) replay.old.count
+    ensures told { (left taken : Option (List ℕ))
+        → Run replay.old.reader left (S.left source.old) taken (K.taken sink.old) replay.old.count
         → IsJudgement result → IfSome left (λ b. Answers b result taken (K.taken sink.new)) }
-    ensures front { FrontsOn replay.old (S.left source.old) (S.left source.new) (K.taken sink.old) (K.taken sink.new) }
+    ensures front { FrontsOn replay.old (S.left source.old) (S.left source.new) (K.taken sink.old)
+        (K.taken sink.new) }
     ensures listed { IsOfReplay result }
-    ensures taken { TakesAtMost (67108865 - replay.old.count) (S.left source.old) (S.left source.new) }
+    ensures taken { TakesAtMost (67108865 - replay.old.count) (S.left source.old)
+        (S.left source.new) }
     ensures read { result ≡ Status.ReadFault → Rose (S.faults source.old) (S.faults source.new) }
     ensures write { result ≡ Status.WriteFault → Rose (K.faults sink.old) (K.faults sink.new) }
-    ensures later { (S.faults source.old ≤ S.faults source.new) × (K.faults sink.old ≤ K.faults sink.new) }
+    ensures later { (S.faults source.old ≤ S.faults source.new)
+        × (K.faults sink.old ≤ K.faults sink.new) }
 {
     while replay.has_room() {
         if let Some(status) = replay.turn(alloc, source, sink, piece) {
@@ -231,15 +254,20 @@ fn run<S: Source, K: Sink>(
 
 /// Replays a record: each line is answered before the next is judged.
 pub fn replay_record<S: Source, K: Sink>(alloc: Global, source: &mut S, sink: &mut K) -> Status
-    ensures told { IsJudgement result → IfSome (S.left source.old) (λ b. Answers b result (K.taken sink.old) (K.taken sink.new)) }
-    ensures history { IsJudgement result → IfSome (S.left source.old) (λ b. WritesHistory b result (K.taken sink.old) (K.taken sink.new)) }
+    ensures told { IsJudgement result
+        → IfSome (S.left source.old) (λ b. Answers b result (K.taken sink.old) (K.taken sink.new)) }
+    ensures history { IsJudgement result
+        → IfSome (S.left source.old) (λ b. WritesHistory b result (K.taken sink.old)
+        (K.taken sink.new)) }
     ensures whole { IsRefusal result → IfSome (S.left source.old) IsNoRecord }
-    ensures front { WritesFront (S.left source.old) (S.left source.new) (K.taken sink.old) (K.taken sink.new) }
+    ensures front { WritesFront (S.left source.old) (S.left source.new) (K.taken sink.old)
+        (K.taken sink.new) }
     ensures listed { IsOfReplay result }
     ensures taken { TakesAtMost 67108865 (S.left source.old) (S.left source.new) }
     ensures read { result ≡ Status.ReadFault → Rose (S.faults source.old) (S.faults source.new) }
     ensures write { result ≡ Status.WriteFault → Rose (K.faults sink.old) (K.faults sink.new) }
-    ensures later { (S.faults source.old ≤ S.faults source.new) × (K.faults sink.old ≤ K.faults sink.new) }
+    ensures later { (S.faults source.old ≤ S.faults source.new)
+        × (K.faults sink.old ≤ K.faults sink.new) }
 {
     let mut replay = Replay::new(alloc);
     let mut piece = [0u8; 16384];

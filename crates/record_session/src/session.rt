@@ -15,10 +15,13 @@ pub struct Session {
 }
 
 impl Session {
-    ghost use Rattle.std.specs.Prelude.{◌≡◌, ◌<◌, ◌≤◌, ◌+◌, ◌^◌, ◌++◌, ◌∷◌, [], suc, length, IfOk, IfSome, IfNone, OnOk};
+    ghost use Rattle.std.specs.Prelude.{◌≡◌, ◌<◌, ◌≤◌, ◌+◌, ◌^◌, ◌++◌, ◌∷◌, [], suc, length, IfOk};
+    ghost use Rattle.std.specs.Prelude.{IfSome, IfNone, OnOk};
     ghost use Rattle.record_outcome.specs.Moves.{Place};
-    ghost use Rattle.record_outcome.specs.Records.{line_at, unended as unended_at, ended as ended_at, NoNewline};
-    ghost use Rattle.record_session.specs.Sessions.{IsAt, AdvancesOn, Reads, Moves, steps_in, IsEarly};
+    ghost use Rattle.record_outcome.specs.Records.{line_at, unended as unended_at};
+    ghost use Rattle.record_outcome.specs.Records.{ended as ended_at, NoNewline};
+    ghost use Rattle.record_session.specs.Sessions.{IsAt, AdvancesOn, Reads, Moves, steps_in};
+    ghost use Rattle.record_session.specs.Sessions.{IsEarly};
     ghost use Rattle.record_outcome.specs.Judgements.{IsJudgement};
 
     /// Nothing is read yet.
@@ -48,7 +51,9 @@ impl Session {
         ensures moves { IfOk result (λ s. AdvancesOn s self.old.stage self.new.stage
             (λ place. line_at (suc self.old.lines) place line.now) out.old.items out.new.items) }
         ensures judged { IfOk result (λ s. IfSome s IsJudgement) }
-        ensures few { IfOk result (λ s. IfNone s (steps_in self.new.stage ≤ suc (steps_in self.old.stage + length line.now))) }
+        ensures few { IfOk result
+            (λ s. IfNone s (steps_in self.new.stage
+            ≤ suc (steps_in self.old.stage + length line.now))) }
         ensures early { IfOk result (λ s. IfNone s (IsEarly self.new.stage)) }
         ensures lines { OnOk result (self.new.lines ≡ suc self.old.lines) }
     {
@@ -72,9 +77,12 @@ impl Session {
         requires early { IsEarly self.old.stage }
         requires lines { self.old.lines < 2 ^ 61 }
         requires whole { NoNewline line.now }
-        ensures moves { IfOk result (λ s. Moves s self.old self.new (line.now ++ 10 ∷ []) out.old.items out.new.items) }
+        ensures moves { IfOk result (λ s. Moves s self.old self.new
+            (line.now ++ 10 ∷ []) out.old.items out.new.items) }
         ensures judged { IfOk result (λ s. IfSome s IsJudgement) }
-        ensures few { IfOk result (λ s. IfNone s (steps_in self.new.stage ≤ suc (steps_in self.old.stage + length line.now))) }
+        ensures few { IfOk result
+            (λ s. IfNone s (steps_in self.new.stage
+            ≤ suc (steps_in self.old.stage + length line.now))) }
         ensures early { IfOk result (λ s. IfNone s (IsEarly self.new.stage)) }
         ensures lines { OnOk result (self.new.lines ≤ suc self.old.lines) }
     {
@@ -85,7 +93,8 @@ impl Session {
     /// The status where the line with this number has begun, or hasn't, and doesn't end.
     fn unended(&self, alloc: Global, begun: bool, number: u64) -> Result<Status, AllocError>
         requires early { IsEarly self.now.stage }
-        ensures status { IfOk result (λ s. (place : Place) → IsAt self.now.stage place → s ≡ unended_at begun number place) }
+        ensures status { IfOk result (λ s. (place : Place) → IsAt self.now.stage place
+            → s ≡ unended_at begun number place) }
         ensures judged { IfOk result IsJudgement }
     {
         if is_over(begun, number) {
@@ -100,7 +109,8 @@ impl Session {
     pub fn ended(&self, alloc: Global, long: bool, begun: bool) -> Result<Status, AllocError>
         requires early { IsEarly self.now.stage }
         requires lines { self.now.lines < 2 ^ 61 }
-        ensures status { IfOk result (λ s. (place : Place) → IsAt self.now.stage place → s ≡ ended_at long begun (suc self.now.lines) place) }
+        ensures status { IfOk result (λ s. (place : Place) → IsAt self.now.stage place
+            → s ≡ ended_at long begun (suc self.now.lines) place) }
         ensures judged { IfOk result IsJudgement }
     {
         let number = self.lines + 1;

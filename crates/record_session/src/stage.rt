@@ -27,8 +27,10 @@ impl Stage {
     ghost use Rattle.record_session.specs.Plays.{Starts, IsSound};
     ghost use Rattle.record_outcome.specs.Openings.{opening_at};
     ghost use Rattle.record_session.specs.declared.stage.Stage.TheVariants as stages;
-    ghost use Rattle.record_outcome.specs.Records.{lines_at, passed as passed_at, missing as missing_at};
-    ghost use Rattle.record_session.specs.Sessions.{IsAt, AdvancesOn, steps_in, IsEarly, OpensOn, Settles};
+    ghost use Rattle.record_outcome.specs.Records.{lines_at, passed as passed_at};
+    ghost use Rattle.record_outcome.specs.Records.{missing as missing_at};
+    ghost use Rattle.record_session.specs.Sessions.{IsAt, AdvancesOn, steps_in, IsEarly, OpensOn};
+    ghost use Rattle.record_session.specs.Sessions.{Settles};
     ghost use Rattle.record_outcome.specs.Judgements.{IsJudgement};
 
     /// Goes on to another part.
@@ -85,7 +87,7 @@ impl Stage {
         }
     }
 
-    /// Reads a line of any part. It stays a call, so that a step line pays for no room that the configuration takes.
+    /// Reads a line of any part. It stays a call, so that a step line pays for no memory that the configuration takes.
     #[inline(never)]
     fn read_any(
         &mut self,
@@ -98,9 +100,11 @@ impl Stage {
         requires few { steps_in self.old + length line.now < 2 ^ 61 }
         requires early { IsEarly self.old }
         requires number { number < 2 ^ 62 }
-        ensures moves { IfOk result (λ s. AdvancesOn s self.old self.new (λ place. lines_at number place line.now) out.old.items out.new.items) }
+        ensures moves { IfOk result (λ s. AdvancesOn s self.old self.new
+            (λ place. lines_at number place line.now) out.old.items out.new.items) }
         ensures judged { IfOk result (λ s. IfSome s IsJudgement) }
-        ensures few { IfOk result (λ s. IfNone s (steps_in self.new ≤ suc (steps_in self.old + length line.now))) }
+        ensures few { IfOk result
+            (λ s. IfNone s (steps_in self.new ≤ suc (steps_in self.old + length line.now))) }
         ensures early { IfOk result (λ s. IfNone s (IsEarly self.new)) }
     {
         match self {
@@ -129,9 +133,11 @@ impl Stage {
         requires few { steps_in self.old + length line.now < 2 ^ 61 }
         requires early { IsEarly self.old }
         requires number { number < 2 ^ 62 }
-        ensures moves { IfOk result (λ s. AdvancesOn s self.old self.new (λ place. lines_at number place line.now) out.old.items out.new.items) }
+        ensures moves { IfOk result (λ s. AdvancesOn s self.old self.new
+            (λ place. lines_at number place line.now) out.old.items out.new.items) }
         ensures judged { IfOk result (λ s. IfSome s IsJudgement) }
-        ensures few { IfOk result (λ s. IfNone s (steps_in self.new ≤ suc (steps_in self.old + length line.now))) }
+        ensures few { IfOk result
+            (λ s. IfNone s (steps_in self.new ≤ suc (steps_in self.old + length line.now))) }
         ensures early { IfOk result (λ s. IfNone s (IsEarly self.new)) }
     {
         match self {
@@ -143,7 +149,8 @@ impl Stage {
     /// The status where the line with this number passes a limit.
     pub fn passed(&self, alloc: Global, which: u8, number: u64) -> Result<Status, AllocError>
         requires early { IsEarly self.now }
-        ensures status { IfOk result (λ s. (place : Place) → IsAt self.now place → s ≡ passed_at which number place) }
+        ensures status { IfOk result (λ s. (place : Place) → IsAt self.now place
+            → s ≡ passed_at which number place) }
         ensures judged { IfOk result IsJudgement }
     {
         let status = Status::Limit {
@@ -162,7 +169,8 @@ impl Stage {
     /// The status where the line with this number isn't there.
     pub fn missing(&self, alloc: Global, number: u64) -> Result<Status, AllocError>
         requires early { IsEarly self.now }
-        ensures status { IfOk result (λ s. (place : Place) → IsAt self.now place → s ≡ missing_at number place) }
+        ensures status { IfOk result (λ s. (place : Place) → IsAt self.now place
+            → s ≡ missing_at number place) }
         ensures judged { IfOk result IsJudgement }
     {
         let status = Status::Record {

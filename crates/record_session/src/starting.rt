@@ -19,7 +19,7 @@ pub enum Started {
     Refused(Status),
 }
 
-/// Reads the configuration behind so many lines, and opens its bay.
+/// Reads the configuration after n lines, and opens its bay.
 pub fn start(alloc: Global, before: u64, text: &[u8]) -> Result<Started, AllocError>
     requires { before < 2 ^ 62 }
     ensures starts { IfOk result (λ s. Starts s (started before (config_at text.now))) }

@@ -1,4 +1,4 @@
--- What a program keeps of an association, and what a line that is no piece tells by that alone.
+-- What a program keeps of an association, and what a line that is no piece says by that alone.
 use Rattle.std.proofs.Common.{◌≡◌, ◌==◌, ℕ, false, List, [], refl, ap, subst, ◌∙◌}
 use Rattle.std.specs.Prelude.{Option, None, Some, if◌then◌else◌}
 use Rattle.sv_base.specs.declared.config.Config.{Config}

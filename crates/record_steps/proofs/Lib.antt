@@ -1,4 +1,4 @@
--- Steps that lines tell, and that they fit.
+-- Steps that lines give, and that they fit.
 pub mod StepLaws
 pub mod FormLaws
 pub mod StreamLaws

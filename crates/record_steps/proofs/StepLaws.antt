@@ -1,4 +1,4 @@
--- The steps that lines tell fit the configuration: associations are 1 to 16, blocks are there, and values are sound.
+-- The steps that lines give fit the configuration: associations are 1 to 16, blocks are there, and values are sound.
 use Rattle.std.proofs.Common.{◌≡◌, ℕ, ◌<◌, ◌≤◌, Bool, true, false, cond, List, length, refl, sym, ap, ◌∙◌, arith}
 use Rattle.std.specs.Prelude.{None, Some, nat_lt, if◌then◌else◌}
 use Rattle.std.specs.List.{position_or_len}

@@ -139,7 +139,7 @@ piece-few (suc n) s rest piece fits none = events-phase (has_ended s.phase) (lef
     (events-packet (run_within n) s (rest ++ piece) (packet_at (rest ++ piece)) (length piece)
     (λ tpdu after is. (first-shorter rest piece tpdu after fits none is, λ t. run-few n t after (after_fits (rest ++ piece) tpdu after fits is))))
 
--- behind the end nothing comes
+-- after the end nothing comes
 ended-none : (n : ℕ) (s : Stand) (octets : List ℕ) → has_ended s.phase ≡ true → length (run_within n s octets).events ≤ 0
 ended-none zero s octets over = omega arith
 ended-none (suc n) s octets over = subst (λ b. length (if b then left_at s octets None else after_packet (run_within n) s octets (packet_at octets)).events ≤ 0) (sym over) (omega arith)
@@ -153,7 +153,7 @@ left-few s rest piece fits bytes ends = elim ends [
 
 -- ---- what a stack gives for a piece
 
--- the events of a stream with a piece, behind those without it
+-- the events of a stream with a piece, after those without it
 behind-is : (before piece : List ℕ) (es more : List Event) → (run called before).events ≡ es → (run called (before ++ piece)).events ≡ es ++ more → more ≡ events_behind before piece
 behind-is before piece es more was is =
     sym (ap (λ (o : List Event). drop (length (run called before).events) o) is ∙ (ap (λ (o : List Event). drop (length o) (es ++ more)) was ∙ drop-append_seam es more))

@@ -1,4 +1,4 @@
--- What a line that is no piece tells and leaves, and what a piece comes to by what its association is.
+-- What a line that is no piece says and leaves, and what a piece comes to by what its association is.
 use Rattle.std.proofs.Common.{◌≡◌, ℕ, List, [], ap, ◌∙◌, refl}
 use Rattle.sv_base.specs.declared.config.Config.{Config}
 use Rattle.sv_base.specs.declared.numbers.AssocNo.{AssocNo}

@@ -1,4 +1,4 @@
--- What lines tell, by what is known of them; and a step that a line tells is its association's own, and fits.
+-- What lines say, by what is known of them; and a step that a line gives is its association's own, and fits.
 use Rattle.std.proofs.Common.{◌≡◌, ℕ, Bool, true, false, not, List, refl, sym, ap, subst, ◌∙◌}
 use Rattle.std.specs.Prelude.{Option, None, Some, if◌then◌else◌}
 use Rattle.sv_base.specs.declared.config.Config.{Config}
@@ -49,7 +49,7 @@ module _ (c : Config) (pairs : List Pair) where
   pub set-unspelled : are_named c pairs ≡ true → settings_at c pairs ≡ None → refused 4 ≡ set_as c pairs
   set-unspelled named is = sym (ap (λ b. if b then set_to c (settings_at c pairs) else refused 3) named ∙ ap (set_to c) is)
 
--- a line that names no association tells the same, whatever is open
+-- a line that names no association says the same, whatever is open
 pub told-anyway : (c : Config) (line : RecLine) (form other : Form) → NamesNone line → told_of c form line ≡ told_of c other line
 unfolding told_of
 told-anyway c lines.Skip form other h = refl
@@ -61,7 +61,7 @@ told-anyway c lines.Tick form other h = refl
 told-anyway c lines.End form other h = refl
 told-anyway c _ form other h = absurd h
 
--- a step that a line tells
+-- a step that a line gives
 turned : (c : Config) (k actor : ℕ) (s step : Step) (P : ℕ → Step → Type 0) → turn_of c k s ≡ turn actor step → P k s → P actor step × (fits c step ≡ true)
 turned c k actor s step P is p = by (fits c s) refl is where
   by : (b : Bool) → fits c s ≡ b → (if b then turn k s else refused 4) ≡ turn actor step → P actor step × (fits c step ≡ true)

@@ -1,5 +1,5 @@
 -- What an association of a record is: shut, direct, of MMS with the size of its PDUs, or of a stream, with the octets of that since its
--- `open` line. One of a stream dials until it is connected, and then is on the wire, on a line. The lines of the record tell it.
+-- `open` line. One of a stream dials until it is connected, and then is on the wire, on a line. The lines of the record say it.
 use Rattle.std.specs.Prelude.{◌≡◌, ℕ, ◌==◌, Bool, true, false, List, [], ◌++◌, Option, None, Some, if◌then◌else◌}
 use Rattle.stream_lines.specs.Shapes.{IsShape}
 use Rattle.stream_lines.specs.declared.shape.Shape.{Shape}
@@ -47,13 +47,13 @@ form_of Dialling octets = dialling octets
 form_of (On line) octets = wire line octets
 form_of Off octets = shut
 
--- what it is behind its `open` line
+-- what it is after its `open` line
 abbrev pub opened_form : OpenForm → Form
 opened_form opens.Direct = direct
 opened_form (opens.Mms size) = mms size
 opened_form opens.Wire = dialling []
 
--- and behind a piece, if it is one of a stream
+-- and after a piece, if it is one of a stream
 abbrev pub fed_form : Wired → List ℕ → Option (List ℕ) → Form
 fed_form w octets None = form_of w octets
 fed_form w octets (Some piece) = form_of (wired_through (events_behind octets piece) (refusal_behind octets piece) w) (octets ++ piece)
@@ -63,7 +63,7 @@ form_fed (dialling octets) piece = fed_form Dialling octets piece
 form_fed (wire line octets) piece = fed_form (On line) octets piece
 form_fed form piece = form
 
--- what association a is behind a line
+-- what association a is after a line
 abbrev pub form_behind : ℕ → RecLine → Form → Form
 form_behind a (lines.Open b form) was = if b.0 == a then opened_form form else was
 form_behind a (lines.Piece b hex) was = if b.0 == a then form_fed was (piece_at hex) else was

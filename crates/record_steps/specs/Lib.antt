@@ -1,4 +1,4 @@
--- What a line tells, from its names and values to its step.
+-- What a line says, from its names and values to its step.
 pub use Rattle.record_values.specs.Shapes
 pub use Rattle.record_values.specs.Settings
 pub mod Asks

@@ -1,4 +1,4 @@
--- What a line of a record tells a bay: names are looked up in its configuration, and values are read. Of several causes for
+-- What a line of a record asks of a bay: names are looked up in its configuration, and values are read. Of several causes for
 -- a refusal the first one counts: 3 a name of nothing, 5 an association that isn't open or is of another form, 6 no hexadecimal or
 -- no octet, 4 no value.
 use Rattle.std.specs.Prelude.{ℕ, Bool, List, Option, None, Some, if◌then◌else◌}
@@ -80,7 +80,7 @@ abbrev pub sent_as : Config → Form → AssocNo → List ℕ → Told
 sent_as c (mms size) a hex = spelled_as c a (hex_at hex)
 sent_as c _ a hex = refused 5
 
--- a piece, behind octets of its stream
+-- a piece, after octets of its stream
 abbrev pub piece_as : Config → Wired → AssocNo → List ℕ → Option (List ℕ) → Told
 piece_as c w a octets None = refused 6
 piece_as c w a octets (Some piece) = heard (heard_through c a (events_behind octets piece) (refusal_behind octets piece) w)

@@ -40,7 +40,7 @@ refusal_behind octets piece = refusal (octets ++ piece) (run called (octets ++ p
 
 -- ---- what the association of a stream is
 
--- it dials until it is connected, and is gone behind a release, an abort and a refusal
+-- it dials until it is connected, and is gone after a release, an abort and a refusal
 abbrev pub wired_by : Event → Wired → Wired
 wired_by (Answer octets) w = w
 wired_by (Connected line octets) w = On line
@@ -80,7 +80,7 @@ heard_by c a w (Pdu octets) = asked_heard a (asked_by c octets)
 heard_by c a w (Released octets) = Tells (frame_line a.0 octets ++ released_line a.0) ∷ lost_by a w
 heard_by c a w Aborted = Tells (aborted_line a.0) ∷ lost_by a w
 
--- no stream is refused for want of memory
+-- no stream is refused when out of memory
 abbrev pub heard_fault : AssocNo → Wired → StackFault → List Heard
 heard_fault a w faults.Memory = []
 heard_fault a w (faults.Refused layer code octets) = Tells (fault_line a.0 layer code octets) ∷ lost_by a w

@@ -1,4 +1,4 @@
--- What a line of a record tells a bay: nothing, the moment of the lines that follow, a step of an actor, what a piece of a stream comes
+-- What a line of a record asks of a bay: nothing, the moment of the lines that follow, a step of an actor, what a piece of a stream comes
 -- to, part by part, a refusal for a cause of a kind, or that it is the last line.
 use Rattle.std.specs.Prelude.{ℕ, List}
 use Rattle.bay_model.specs.declared.step.Step.{Step}

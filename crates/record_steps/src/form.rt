@@ -18,7 +18,7 @@ pub enum Form {
     Shut,
     /// It writes components of blocks, and takes reports as they are.
     Direct,
-    /// It exchanges MMS PDUs (ISO 9506-2) of at most so many octets, 1024 to 65000.
+    /// It exchanges MMS PDUs (ISO 9506-2) of at most n octets, 1024 to 65000.
     Mms(u32),
     /// It sends a stream, and isn't connected yet.
     Dialling(Upper),
@@ -62,12 +62,14 @@ fn opened(asked: OpenForm) -> Form
     }
 }
 
-/// Makes of the association that a line names what it is behind the line, if that is no piece of a stream.
+/// Makes of the association that a line names what it is after the line, if that is no piece of a stream.
 pub fn pass(line: &LineView<'_>, form: &mut Form)
     requires ranges { IsLine (line_seen line.now) }
     requires plain { IsPlain (line_seen line.now) }
     requires sized { IsSized form.old }
-    ensures form { (f : specs.Form) → Stands form.old f → Stands form.new (form_behind (association_of (line_seen line.now)) (line_seen line.now) f) }
+    ensures form { (f : specs.Form) → Stands form.old f
+        → Stands form.new (form_behind (association_of (line_seen line.now))
+        (line_seen line.now) f) }
     ensures sized { IsSized form.new }
 {
     match line {

@@ -36,7 +36,8 @@ impl Forms {
     ghost use Rattle.run_record.specs.Grammar.{IsLine};
     ghost use Rattle.run_record.specs.Seen.{line_seen};
     ghost use Rattle.record_steps.specs.declared.form.Form.TheVariants.{Shut};
-    ghost use Rattle.record_steps.specs.Forms.{Form as FormOf, IsSized, Stands, plain, shape_of, form_behind};
+    ghost use Rattle.record_steps.specs.Forms.{Form as FormOf, IsSized, Stands, plain, shape_of};
+    ghost use Rattle.record_steps.specs.Forms.{form_behind};
     ghost use Rattle.record_steps.specs.Own.{IsFittingPart};
     ghost use Rattle.record_steps.specs.Resolved.{association_of, told_of};
     ghost use Rattle.record_steps.specs.Streams.{made};
@@ -63,7 +64,7 @@ impl Forms {
         self.forms[a.0 as usize].shape()
     }
 
-    /// What a line tells, by what its association is, which becomes what it is behind the line. A step is made in the slot, and the
+    /// What a line says, by what its association is, which becomes what it is after the line. A step is made in the slot, and the
     /// parts of a piece are put into the list, which is empty.
     pub fn tell(
         &mut self,
@@ -78,9 +79,11 @@ impl Forms {
         requires ranges { IsLine (line_seen line.now) }
         requires none { heard.old.items ≡ [] }
         ensures told { (f : FormOf) → Stands (form_in self.old a.0) f
-            → IfOk result (λ told. telling told step.new heard.new.items ≡ told_of model.now f (line_seen line.now)) }
+            → IfOk result (λ told. telling told step.new heard.new.items ≡ told_of model.now f
+            (line_seen line.now)) }
         ensures form { (f : FormOf) → Stands (form_in self.old a.0) f
-            → OnOk result (Stands (form_in self.new a.0) (form_behind (association_of (line_seen line.now)) (line_seen line.now) f)) }
+            → OnOk result (Stands (form_in self.new a.0)
+            (form_behind (association_of (line_seen line.now)) (line_seen line.now) f)) }
         ensures others { (b : ℕ) → (a.0 == b) ≡ false → form_in self.new b ≡ form_in self.old b }
         ensures fits { OnOk result (AllByRecursion (IsFittingPart model.now) heard.new.items) }
         ensures few { OnOk result (made heard.new.items ≤ most_steps (line_seen line.now)) }

@@ -8,7 +8,8 @@ ghost use Rattle.stream_lines.specs.Lines.{frame_line, released_line, aborted_li
 ghost use Rattle.record_steps.specs.declared.heard.Heard.TheVariants.{Tells, Makes};
 ghost use Rattle.record_steps.specs.Asks.{asked_by};
 ghost use Rattle.record_steps.specs.Own.{IsFittingPart, own_opening};
-ghost use Rattle.record_steps.specs.Streams.{IsWired, wired_by, wired_through, lost_by, asked_heard, heard_by, heard_fault, heard_through};
+ghost use Rattle.record_steps.specs.Streams.{IsWired, wired_by, wired_through, lost_by};
+ghost use Rattle.record_steps.specs.Streams.{asked_heard, heard_by, heard_fault, heard_through};
 
 use bay_model::Step;
 use bay_requests::read_request;
@@ -58,7 +59,8 @@ fn answer(
     octets: &[u8],
     heard: &mut Vec<Heard>,
 ) -> Result<(), AllocError>
-    ensures { OnOk result (heard.new.items ≡ heard.old.items ++ Tells (frame_line a.0 octets.now) ∷ []) }
+    ensures { OnOk result (heard.new.items ≡ heard.old.items ++ Tells
+        (frame_line a.0 octets.now) ∷ []) }
 {
     let mut text = Vec::new(alloc);
     push_frame(&mut text, a, octets)?;
@@ -74,7 +76,8 @@ fn connect(
     octets: &[u8],
     heard: &mut Vec<Heard>,
 ) -> Result<(), AllocError>
-    ensures { OnOk result (heard.new.items ≡ heard.old.items ++ Makes (record { 0 = a.0 }) (own_opening a line.size) ∷ Tells
+    ensures { OnOk result (heard.new.items ≡ heard.old.items ++ Makes (record { 0 = a.0 })
+        (own_opening a line.size) ∷ Tells
         (frame_line a.0 octets.now) ∷ []) }
 {
     let writer = ActorNo(a.0);
@@ -96,8 +99,10 @@ fn ask(
     pdu: &[u8],
     heard: &mut Vec<Heard>,
 ) -> Result<(), AllocError>
-    ensures heard { OnOk result (heard.new.items ≡ heard.old.items ++ asked_heard a (asked_by model.now pdu.now)) }
-    ensures fits { IsAssoc a → OnOk result (AllByRecursion (IsFittingPart model.now) (asked_heard a (asked_by model.now pdu.now))) }
+    ensures heard { OnOk result (heard.new.items ≡ heard.old.items ++ asked_heard a
+        (asked_by model.now pdu.now)) }
+    ensures fits { IsAssoc a → OnOk result (AllByRecursion (IsFittingPart model.now)
+        (asked_heard a (asked_by model.now pdu.now))) }
 {
     if let Some(request) = read_request(alloc, model, pdu)? {
         heard.push(Heard::Makes(ActorNo(a.0), Step::Ask(a, request)))?;
@@ -112,7 +117,8 @@ fn release(
     octets: &[u8],
     heard: &mut Vec<Heard>,
 ) -> Result<(), AllocError>
-    ensures { OnOk result (heard.new.items ≡ heard.old.items ++ Tells (frame_line a.0 octets.now ++ released_line a.0) ∷ []) }
+    ensures { OnOk result (heard.new.items ≡ heard.old.items ++ Tells (frame_line a.0 octets.now
+        ++ released_line a.0) ∷ []) }
 {
     let mut text = Vec::new(alloc);
     push_frame(&mut text, a, octets)?;
@@ -131,7 +137,7 @@ fn abort(alloc: Global, a: AssocNo, heard: &mut Vec<Heard>) -> Result<(), AllocE
     Ok(())
 }
 
-/// What an event comes to, and what the association is behind it.
+/// What an event comes to, and what the association is after it.
 fn take_event(
     alloc: Global,
     model: &Model,
@@ -143,10 +149,12 @@ fn take_event(
     requires number { IsAssoc a }
     requires line { HasLine event.now }
     requires wired { IsWired wired }
-    ensures heard { OnOk result (heard.new.items ≡ heard.old.items ++ heard_by model.now a wired event.now) }
+    ensures heard { OnOk result (heard.new.items ≡ heard.old.items
+        ++ heard_by model.now a wired event.now) }
     ensures wired { IfOk result (λ w. w ≡ wired_by event.now wired) }
     ensures agreed { IfOk result IsWired }
-    ensures fits { OnOk result (AllByRecursion (IsFittingPart model.now) (heard_by model.now a wired event.now)) }
+    ensures fits { OnOk result (AllByRecursion (IsFittingPart model.now)
+        (heard_by model.now a wired event.now)) }
 {
     match event {
         Event::Answer(octets) => {
@@ -174,7 +182,7 @@ fn take_event(
     }
 }
 
-/// What a refusal of the stack comes to; want of memory is none.
+/// What a refusal of the stack comes to; out of memory is none.
 fn take_fault(
     alloc: Global,
     a: AssocNo,
@@ -199,7 +207,7 @@ fn take_fault(
     }
 }
 
-/// What events come to, and the refusal behind them, if there is one; gives what the association is then.
+/// What events come to, and the refusal after them, if there is one; gives what the association is then.
 pub fn take_events(
     alloc: Global,
     model: &Model,
@@ -212,10 +220,12 @@ pub fn take_events(
     requires number { IsAssoc a }
     requires lines { AllByRecursion HasLine events.now }
     requires wired { IsWired before }
-    ensures heard { OnOk result (heard.new.items ≡ heard.old.items ++ heard_through model.now a events.now fault before) }
+    ensures heard { OnOk result (heard.new.items ≡ heard.old.items
+        ++ heard_through model.now a events.now fault before) }
     ensures wired { IfOk result (λ w. w ≡ wired_through events.now fault before) }
     ensures agreed { IfOk result IsWired }
-    ensures fits { OnOk result (AllByRecursion (IsFittingPart model.now) (heard_through model.now a events.now fault before)) }
+    ensures fits { OnOk result (AllByRecursion (IsFittingPart model.now)
+        (heard_through model.now a events.now fault before)) }
 {
     let mut wired = before;
     for event in events {

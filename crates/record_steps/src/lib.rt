@@ -1,7 +1,7 @@
-//! The steps of a record: what a line tells a bay, with names looked up in its model and values read.
+//! The steps of a record: what a line asks of a bay, with names looked up in its model and values read.
 #![tactic(auto)]
 
-// what a line tells: a step in a slot that is lent, the parts of a piece, or the first cause for which there is none
+// what a line says: a step in a slot that is lent, the parts of a piece, or the first cause for which there is none
 mod telling;
 
 pub use telling::{Told, association, tell};

@@ -13,7 +13,8 @@ ghost use Rattle.record_steps.specs.Forms as specs;
 ghost use Rattle.record_steps.specs.Forms.{HasShape, IsSized, Stands, form_of, fed_form, form_fed};
 ghost use Rattle.record_steps.specs.Own.{IsFittingPart};
 ghost use Rattle.record_steps.specs.Resolved.{piece_as, fed_as};
-ghost use Rattle.record_steps.specs.Streams.{piece_at, events_behind, refusal_behind, heard_through, IsWired, made};
+ghost use Rattle.record_steps.specs.Streams.{piece_at, events_behind, refusal_behind};
+ghost use Rattle.record_steps.specs.Streams.{heard_through, IsWired, made};
 ghost use Rattle.record_steps.specs.Telling.{telling};
 ghost use Rattle.record_steps.specs.Fed.{IsFed};
 
@@ -43,7 +44,8 @@ fn piece(alloc: Global, hex: &[u8]) -> Result<Option<Vec<u8>>, AllocError>
 /// The association of a stream, whose stack this is.
 fn with_stack(wired: Wired, upper: Upper) -> Form
     requires { IsWired wired }
-    ensures form { (octets : List ℕ) (events : List StackEvent) → StandsFor upper octets events → Stands result (form_of wired octets) }
+    ensures form { (octets : List ℕ) (events : List StackEvent) → StandsFor upper octets events
+        → Stands result (form_of wired octets) }
     ensures off { (octets : List ℕ) → wired ≡ Off → Stands result (form_of wired octets) }
     ensures sized { HasShape result }
 {
@@ -62,7 +64,8 @@ fn feed_stack(
     events: &mut Events,
 ) -> Result<Option<StackFault>, AllocError>
     requires { events.old ≡ [] }
-    ensures fed { (before : List ℕ) (es : List StackEvent) → StandsFor upper.old before es → IfOk result (IsFed upper.new before octets.now es events.new) }
+    ensures fed { (before : List ℕ) (es : List StackEvent) → StandsFor upper.old before es
+        → IfOk result (IsFed upper.new before octets.now es events.new) }
     ensures lines { OnOk result (AllByRecursion HasLine events.new) }
 {
     match upper.feed(alloc, octets, events) {
@@ -96,12 +99,14 @@ fn feed(
     requires wired { IsWired wired }
     requires none { heard.old.items ≡ [] }
     ensures heard { (before : List ℕ) (events : List StackEvent) → StandsFor stack before events
-        → OnOk result (heard.new.items ≡ heard_through model.now a (events_behind before octets.now) (refusal_behind before octets.now) wired) }
+        → OnOk result (heard.new.items ≡ heard_through model.now a (events_behind before octets.now)
+        (refusal_behind before octets.now) wired) }
     ensures form { (before : List ℕ) (events : List StackEvent) → StandsFor stack before events
         → IfOk result (λ form. Stands form (fed_form wired before (Some octets.now))) }
     ensures sized { IfOk result HasShape }
     ensures fits { OnOk result (AllByRecursion (IsFittingPart model.now) heard.new.items) }
-    ensures few { (before : List ℕ) (events : List StackEvent) → StandsFor stack before events → OnOk result (made heard.new.items ≤ suc (length octets.now)) }
+    ensures few { (before : List ℕ) (events : List StackEvent) → StandsFor stack before events
+        → OnOk result (made heard.new.items ≤ suc (length octets.now)) }
 {
     let mut upper = stack;
     let mut events = Events::from_vec(Vec::new(alloc));
@@ -110,7 +115,7 @@ fn feed(
     Ok(with_stack(after, upper))
 }
 
-/// What a piece of a stream comes to, and what its association is behind it.
+/// What a piece of a stream comes to, and what its association is after it.
 fn hear_piece(
     alloc: Global,
     model: &Model,
@@ -123,13 +128,16 @@ fn hear_piece(
     requires number { IsAssoc a }
     requires wired { IsWired wired }
     requires none { heard.old.items ≡ [] }
-    ensures told { (before : List ℕ) (events : List StackEvent) (slot : Step) → StandsFor upper before events
-        → IfOk result (λ r. telling r.1 slot heard.new.items ≡ piece_as model.now wired a before (piece_at hex.now)) }
+    ensures told { (before : List ℕ) (events : List StackEvent) (slot : Step)
+        → StandsFor upper before events
+        → IfOk result (λ r. telling r.1 slot heard.new.items ≡ piece_as model.now wired a before
+        (piece_at hex.now)) }
     ensures form { (before : List ℕ) (events : List StackEvent) → StandsFor upper before events
         → IfOk result (λ r. Stands r.0 (fed_form wired before (piece_at hex.now))) }
     ensures sized { IfOk result (λ r. HasShape r.0) }
     ensures fits { OnOk result (AllByRecursion (IsFittingPart model.now) heard.new.items) }
-    ensures few { (before : List ℕ) (events : List StackEvent) → StandsFor upper before events → OnOk result (made heard.new.items ≤ suc (length hex.now)) }
+    ensures few { (before : List ℕ) (events : List StackEvent) → StandsFor upper before events
+        → OnOk result (made heard.new.items ≤ suc (length hex.now)) }
 {
     let Some(octets) = piece(alloc, hex)? else {
         return Ok((with_stack(wired, upper), Told::Refused(Kind::Hex)));
@@ -138,7 +146,7 @@ fn hear_piece(
     Ok((form, Told::Heard))
 }
 
-/// What a piece comes to, if its association is one of a stream, and what that is behind it.
+/// What a piece comes to, if its association is one of a stream, and what that is after it.
 pub fn hear(
     alloc: Global,
     model: &Model,
@@ -150,8 +158,10 @@ pub fn hear(
     requires number { IsAssoc a }
     requires sized { IsSized form }
     requires none { heard.old.items ≡ [] }
-    ensures told { (f : specs.Form) (slot : Step) → Stands form f → IfOk result (λ r. telling r.1 slot heard.new.items ≡ fed_as model.now f a hex.now) }
-    ensures form { (f : specs.Form) → Stands form f → IfOk result (λ r. Stands r.0 (form_fed f (piece_at hex.now))) }
+    ensures told { (f : specs.Form) (slot : Step) → Stands form f
+        → IfOk result (λ r. telling r.1 slot heard.new.items ≡ fed_as model.now f a hex.now) }
+    ensures form { (f : specs.Form) → Stands form f
+        → IfOk result (λ r. Stands r.0 (form_fed f (piece_at hex.now))) }
     ensures sized { IfOk result (λ r. IsSized r.0) }
     ensures fits { OnOk result (AllByRecursion (IsFittingPart model.now) heard.new.items) }
     ensures few { OnOk result (made heard.new.items ≤ suc (length hex.now)) }

@@ -1,4 +1,4 @@
-//! What a line tells: a step in a slot that is lent, the parts of a piece in a list, or the first cause for which there is none.
+//! What a line says: a step in a slot that is lent, the parts of a piece in a list, or the first cause for which there is none.
 
 ghost use Rattle.std.specs.Prelude.{◌≡◌, ◌≤◌, [], IfOk, OnOk, IfSome, MatchOption};
 ghost use Rattle.std.specs.List.{AllByRecursion};
@@ -9,7 +9,8 @@ ghost use Rattle.run_record.specs.Seen.{line_seen, pairs_seen};
 ghost use Rattle.name_leaves.specs.Numbers.{number_in};
 ghost use Rattle.object_model.specs.References.{block_references, control_references};
 ghost use Rattle.sv_base.specs.ComponentTable.{comp_named};
-ghost use Rattle.record_steps.specs.Resolved.{opened_in, opened_as, written_as, lost_as, asked_as, spelled_as, sent_as, set_as, ended_as, blocked_as};
+ghost use Rattle.record_steps.specs.Resolved.{opened_in, opened_as, written_as, lost_as, asked_as};
+ghost use Rattle.record_steps.specs.Resolved.{spelled_as, sent_as, set_as, ended_as, blocked_as};
 ghost use Rattle.record_steps.specs.Resolved.{turn_of, association_of, told_of};
 ghost use Rattle.record_steps.specs.Forms as specs;
 ghost use Rattle.record_steps.specs.Forms.{IsSized, Stands, plain, form_behind};
@@ -31,7 +32,7 @@ use std::mem::replace;
 use sv_base::{ActorNo, AssocNo, Moment, Owner};
 use text_words::hex_octets;
 
-/// What a line tells, where a step stands in the slot that was lent, and the parts of a piece in the list.
+/// What a line says, where a step stands in the slot that was lent, and the parts of a piece in the list.
 #[derive(Clone, Copy, Debug, PartialEq, Eq)]
 pub enum Told {
     /// Nothing.
@@ -107,7 +108,8 @@ fn write(
     step: &mut Step,
 ) -> Result<Told, AllocError>
     requires { IsAssoc a }
-    ensures { IfOk result (λ told. telling told step.new [] ≡ written_as model.now (plain form.now) a
+    ensures { IfOk result (λ told. telling told step.new [] ≡ written_as model.now
+        (plain form.now) a
         (number_in (block_references model.now) block.now) (comp_named comp.now) value.now) }
 {
     let Some(block) = model.block(block) else {
@@ -172,7 +174,8 @@ fn send_spelled(
     step: &mut Step,
 ) -> Result<Told, AllocError>
     requires { IsAssoc a }
-    ensures { IfOk result (λ told. telling told step.new [] ≡ spelled_as model.now a (hex_at hex.now)) }
+    ensures { IfOk result (λ told. telling told step.new [] ≡ spelled_as model.now a
+        (hex_at hex.now)) }
 {
     let Some(octets) = hex_octets(alloc, hex)? else {
         return Ok(Told::Refused(Kind::Hex));
@@ -191,7 +194,8 @@ fn send(
     step: &mut Step,
 ) -> Result<Told, AllocError>
     requires { IsAssoc a }
-    ensures { IfOk result (λ told. telling told step.new [] ≡ sent_as model.now (plain form.now) a hex.now) }
+    ensures { IfOk result (λ told. telling told step.new [] ≡ sent_as model.now
+        (plain form.now) a hex.now) }
 {
     match form {
         Form::Mms(_) => send_spelled(alloc, model, a, hex, step),
@@ -218,7 +222,8 @@ fn set(
     pairs: &PairsView<'_>,
     step: &mut Step,
 ) -> Result<Told, AllocError>
-    ensures { IfOk result (λ told. telling told step.new [] ≡ set_as model.now (pairs_seen pairs.now)) }
+    ensures { IfOk result (λ told. telling told step.new [] ≡ set_as model.now
+        (pairs_seen pairs.now)) }
 {
     let spare = spare_in(alloc, step);
     match settings_of(alloc, model, pairs, spare)? {
@@ -233,7 +238,8 @@ fn set(
 
 /// The process ends what a control executes, if the control is there.
 fn end(model: &Model, control: &[u8], well: bool, step: &mut Step) -> Told
-    ensures { telling result step.new [] ≡ ended_as model.now (number_in (control_references model.now) control.now) well }
+    ensures { telling result step.new [] ≡ ended_as model.now
+        (number_in (control_references model.now) control.now) well }
 {
     let Some(control) = model.control(control) else {
         return Told::Refused(Kind::Name);
@@ -244,7 +250,8 @@ fn end(model: &Model, control: &[u8], well: bool, step: &mut Step) -> Told
 
 /// The process blocks a control or unblocks it, if it is there.
 fn block(model: &Model, control: &[u8], on: bool, step: &mut Step) -> Told
-    ensures { telling result step.new [] ≡ blocked_as model.now (number_in (control_references model.now) control.now) on }
+    ensures { telling result step.new [] ≡ blocked_as model.now
+        (number_in (control_references model.now) control.now) on }
 {
     let Some(control) = model.control(control) else {
         return Told::Refused(Kind::Name);
@@ -274,7 +281,7 @@ pub fn association(line: &LineView<'_>) -> Option<AssocNo>
     }
 }
 
-/// What a line tells that is no piece of a stream, by what the association that it names is. A step is made in the slot, and
+/// What a line says that is no piece of a stream, by what the association that it names is. A step is made in the slot, and
 /// fits the model.
 #[tactic(auto, unfolding(crate::specs::Resolved::told_of))]
 fn say(
@@ -286,7 +293,8 @@ fn say(
 ) -> Result<Told, AllocError>
     requires ranges { IsLine (line_seen line.now) }
     requires plain { IsPlain (line_seen line.now) }
-    ensures told { IfOk result (λ told. telling told step.new [] ≡ told_of model.now (plain form.now) (line_seen line.now)) }
+    ensures told { IfOk result (λ told. telling told step.new [] ≡ told_of model.now
+        (plain form.now) (line_seen line.now)) }
 {
     match line {
         LineView::Skip => Ok(Told::Nothing),
@@ -313,7 +321,7 @@ fn say(
     }
 }
 
-/// What a line tells, by what the association that it names is; that becomes what it is behind the line. A step is made in the
+/// What a line says, by what the association that it names is; that becomes what it is after the line. A step is made in the
 /// slot, and the parts of a piece are put into the list, which is empty; each step fits the model.
 pub fn tell(
     alloc: Global,
@@ -329,7 +337,8 @@ pub fn tell(
     ensures told { (f : specs.Form) → Stands form.old f → IfOk result
         (λ told. telling told step.new heard.new.items ≡ told_of model.now f (line_seen line.now)) }
     ensures form { (f : specs.Form) → Stands form.old f → OnOk result
-        (Stands form.new (form_behind (association_of (line_seen line.now)) (line_seen line.now) f)) }
+        (Stands form.new (form_behind (association_of (line_seen line.now))
+        (line_seen line.now) f)) }
     ensures sized { IsSized form.new }
     ensures fits { OnOk result (AllByRecursion (IsFittingPart model.now) heard.new.items) }
     ensures few { OnOk result (made heard.new.items ≤ most_steps (line_seen line.now)) }

@@ -1,4 +1,4 @@
--- The settings that a line tells fit the configuration: each is of an attribute that is there, and of its type.
+-- The settings that a line says fit the configuration: each is of an attribute that is there, and of its type.
 use Rattle.std.proofs.Common.{◌≡◌, ℕ, ◌≤◌, inl, inr, true, List, [], ◌∷◌, ◌++◌, refl, sym, ap, subst, ◌∙◌, arith}
 use Rattle.std.specs.Prelude.{Option, None, Some, slice_get}
 use Rattle.std.specs.Option.{option_map, option_and_then}

@@ -1,4 +1,4 @@
--- Settings that lines tell, and that they fit.
+-- Settings that lines say, and that they fit.
 pub mod ShapeLaws
 pub mod SettingLaws
 pub mod FitLaws

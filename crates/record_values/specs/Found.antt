@@ -1,4 +1,4 @@
--- What is shown of the settings that lines tell.
+-- What is shown of the settings that lines say.
 use Rattle.std.specs.Prelude.{◌≡◌, true, false, List, None, Some}
 use Rattle.sv_base.specs.declared.config.Config.{Config}
 use Rattle.bay_model.specs.declared.step.Step.TheVariants as steps

@@ -40,7 +40,7 @@ abbrev pub behind_those : List Setting → Option Setting → Option (List Setti
 behind_those before None = None
 behind_those before (Some s) = Some (before ++ s ∷ [])
 
--- the settings of pairs behind others, if each has one
+-- the settings of pairs after others, if each has one
 abbrev pub settings_from : Config → Option (List Setting) → List Pair → Option (List Setting)
 settings_from c before [] = before
 settings_from c before (p ∷ ps) = settings_from c (option_and_then (λ ss. behind_those ss (setting_at c p)) before) ps
@@ -48,7 +48,7 @@ settings_from c before (p ∷ ps) = settings_from c (option_and_then (λ ss. beh
 abbrev pub settings_at : Config → List Pair → Option (List Setting)
 settings_at c pairs = settings_from c (Some []) pairs
 
--- the setting of attribute x is put behind others, where there is a value for it
+-- the setting of attribute x is put after others, where there is a value for it
 abbrev pub IsPut : Bool → ℕ → Option Value → List Setting → List Setting → Type 0
 IsPut there x None before now = (there ≡ false) × (now ≡ before)
 IsPut there x (Some v) before now = (there ≡ true) × (now ≡ before ++ setting x v ∷ [])

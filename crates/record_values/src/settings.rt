@@ -25,10 +25,11 @@ pub enum Found {
     Unspelled,
 }
 
-/// Puts the setting of an attribute behind others, where there is a value for it; tells whether there is.
+/// Puts the setting of an attribute after others, where there is a value for it; returns whether there is.
 #[inline(always)] // so that the value is made where it stays
 fn put(settings: &mut Vec<Setting>, attr: AttrId, value: Option<Value>) -> Result<bool, AllocError>
-    ensures { IfOk result (λ there. IsPut there attr.0 value settings.old.items settings.new.items) }
+    ensures { IfOk result (λ there. IsPut there attr.0 value settings.old.items
+        settings.new.items) }
 {
     match value {
         Some(value) => {
@@ -39,7 +40,7 @@ fn put(settings: &mut Vec<Setting>, attr: AttrId, value: Option<Value>) -> Resul
     }
 }
 
-/// Puts the setting of an attribute behind others, where a text spells a value of its type; tells whether that is so.
+/// Puts the setting of an attribute after others, where a text spells a value of its type; returns whether that is so.
 #[tactic(auto, unfolding(text_words::specs::Values::value_at))]
 fn put_typed(
     alloc: Global,
@@ -48,7 +49,8 @@ fn put_typed(
     word: &[u8],
     settings: &mut Vec<Setting>,
 ) -> Result<bool, AllocError>
-    ensures { IfOk result (λ there. IsPut there attr.0 (typed_in (types_of rows.now) word.now attr.0) settings.old.items settings.new.items) }
+    ensures { IfOk result (λ there. IsPut there attr.0
+        (typed_in (types_of rows.now) word.now attr.0) settings.old.items settings.new.items) }
 {
     let Some(row) = row_at(rows, attr) else {
         return Ok(false);

@@ -2,7 +2,9 @@
 
 ghost use Rattle.std.specs.Prelude.{◌≡◌, IfOk, codes, option_copied};
 ghost use Rattle.text_words.specs.Words.{behind};
-ghost use Rattle.record_values.specs.Shapes.{is_bits as is_bit_string, is_int as is_integer, bits_of, integer_of, number_of, text_of, marked_at, shape_at};
+ghost use Rattle.record_values.specs.Shapes.{is_bits as is_bit_string, is_int as is_integer};
+ghost use Rattle.record_values.specs.Shapes.{bits_of, integer_of, number_of, text_of, marked_at};
+ghost use Rattle.record_values.specs.Shapes.{shape_at};
 
 use bay_model::Comp;
 use std::alloc::{AllocError, Global};
@@ -33,7 +35,7 @@ fn bits(alloc: Global, word: &[u8]) -> Result<Option<Value>, AllocError>
     Ok(None)
 }
 
-/// What stands behind a `-`.
+/// What stands after a `-`.
 fn after_minus(word: &[u8]) -> Option<&[u8]>
     ensures { option_copied result ≡ behind (codes "-") word.now }
 {

@@ -4,7 +4,8 @@ ghost use Rattle.std.specs.Prelude.{◌≡◌, ◌≤◌, ◌++◌, IfOk, IfSome
 ghost use Rattle.std.specs.Io.KnownBytes.{Appends};
 ghost use Rattle.sv_io.specs.Causes.{Rose, GrowsByFront};
 ghost use Rattle.sv_io.specs.Taken.{TakesAtMost};
-ghost use Rattle.replay_run.specs.Checked.{count, counts, IsChecked, IsOfCheck, Checks, ChecksFront};
+ghost use Rattle.replay_run.specs.Checked.{count, counts, IsChecked, IsOfCheck, Checks};
+ghost use Rattle.replay_run.specs.Checked.{ChecksFront};
 ghost use Rattle.replay_run.specs.Writing.{IsOfWriting};
 
 use cfg_text::{CfgFault, read_config};
@@ -42,7 +43,8 @@ fn counts_of(alloc: Global, config: &Config) -> Result<Vec<u8>, AllocError>
 
 /// Writes the counts of a configuration.
 fn tell<K: Sink>(alloc: Global, config: &Config, sink: &mut K) -> Status
-    ensures told { result ≡ Status.Ok → Appends (K.taken sink.old) (K.taken sink.new) (counts config.now) }
+    ensures told { result ≡ Status.Ok → Appends (K.taken sink.old) (K.taken sink.new)
+        (counts config.now) }
     ensures front { GrowsByFront (K.taken sink.old) (K.taken sink.new) (counts config.now) }
     ensures listed { IsOfWriting result }
     ensures write { result ≡ Status.WriteFault → Rose (K.faults sink.old) (K.faults sink.new) }
@@ -58,15 +60,18 @@ fn tell<K: Sink>(alloc: Global, config: &Config, sink: &mut K) -> Status
 }
 
 /// Reads a configuration, and writes how many domains, logical nodes, attributes, data sets, report control blocks and
-/// controls it has; or tells its first refused line.
+/// controls it has; or says its first refused line.
 pub fn check<S: Source, K: Sink>(alloc: Global, source: &mut S, sink: &mut K) -> Status
-    ensures told { IsChecked result → IfSome (S.left source.old) (λ b. Checks b result (K.taken sink.old) (K.taken sink.new)) }
-    ensures front { IfSome (S.left source.old) (λ b. ChecksFront b (K.taken sink.old) (K.taken sink.new)) }
+    ensures told { IsChecked result
+        → IfSome (S.left source.old) (λ b. Checks b result (K.taken sink.old) (K.taken sink.new)) }
+    ensures front { IfSome (S.left source.old) (λ b. ChecksFront b (K.taken sink.old)
+        (K.taken sink.new)) }
     ensures listed { IsOfCheck result }
     ensures taken { TakesAtMost 67108865 (S.left source.old) (S.left source.new) }
     ensures read { result ≡ Status.ReadFault → Rose (S.faults source.old) (S.faults source.new) }
     ensures write { result ≡ Status.WriteFault → Rose (K.faults sink.old) (K.faults sink.new) }
-    ensures later { (S.faults source.old ≤ S.faults source.new) × (K.faults sink.old ≤ K.faults sink.new) }
+    ensures later { (S.faults source.old ≤ S.faults source.new)
+        × (K.faults sink.old ≤ K.faults sink.new) }
 {
     let octets = match read_whole(alloc, source, MOST) {
         Ok(octets) => octets,

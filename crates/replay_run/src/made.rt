@@ -43,7 +43,8 @@ pub fn asked_for(words: &[String], wanted: &str) -> Option<Asked>
 
 /// Writes a made record. No more than a piece of it is in memory at once.
 pub fn generate<K: Sink>(alloc: Global, asked: Asked, sink: &mut K) -> Status
-    ensures told { result ≡ Status.Ok → Appends (K.taken sink.old) (K.taken sink.new) (made_record asked.seed asked.count) }
+    ensures told { result ≡ Status.Ok → Appends (K.taken sink.old) (K.taken sink.new)
+        (made_record asked.seed asked.count) }
     ensures listed { IsOfWriting result }
     ensures write { result ≡ Status.WriteFault → Rose (K.faults sink.old) (K.faults sink.new) }
     ensures later { K.faults sink.old ≤ K.faults sink.new }

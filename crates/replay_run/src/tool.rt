@@ -34,10 +34,13 @@ pub fn tool<S: Source, K: Sink>(
     ensures words { (result ≡ Status.Words) ↔ (IsCommand words.now → ⊥) }
 
     // Every status of the record, and the answers to its lines, by the record's octets.
-    ensures told { IsReplay words.now → IsJudgement result → IfSome (S.left source.old) (λ b. Answers b result (K.taken sink.old) (K.taken sink.new)) }
+    ensures told { IsReplay words.now → IsJudgement result
+        → IfSome (S.left source.old) (λ b. Answers b result (K.taken sink.old) (K.taken sink.new)) }
 
     // Up to where the reading stops the sink took the text of the record's history, whose steps are accepted; then `end`, exactly at Ok.
-    ensures history { IsReplay words.now → IsJudgement result → IfSome (S.left source.old) (λ b. WritesHistory b result (K.taken sink.old) (K.taken sink.new)) }
+    ensures history { IsReplay words.now → IsJudgement result
+        → IfSome (S.left source.old) (λ b. WritesHistory b result (K.taken sink.old)
+        (K.taken sink.new)) }
     ensures replays { IsReplay words.now → IsOfReplay result }
 
     // A record of the grammar within the limits is not refused.
@@ -45,19 +48,23 @@ pub fn tool<S: Source, K: Sink>(
 
     // Whatever the status, the sink took a front of the answers to the octets that were taken from the source: of the text of their
     // history, up to where the reading of them stops.
-    ensures front { IsReplay words.now → WritesFront (S.left source.old) (S.left source.new) (K.taken sink.old) (K.taken sink.new) }
+    ensures front { IsReplay words.now → WritesFront (S.left source.old) (S.left source.new)
+        (K.taken sink.old) (K.taken sink.new) }
 
     // The counts of a configuration, or its first refused line, by the configuration's octets.
-    ensures checked { IsCheck words.now → IsChecked result → IfSome (S.left source.old) (λ b. Checks b result (K.taken sink.old) (K.taken sink.new)) }
+    ensures checked { IsCheck words.now → IsChecked result
+        → IfSome (S.left source.old) (λ b. Checks b result (K.taken sink.old) (K.taken sink.new)) }
     ensures checks { IsCheck words.now → IsOfCheck result }
 
     // Whatever the status, a front of these counts.
-    ensures counted { IsCheck words.now → IfSome (S.left source.old) (λ b. ChecksFront b (K.taken sink.old) (K.taken sink.new)) }
+    ensures counted { IsCheck words.now
+        → IfSome (S.left source.old) (λ b. ChecksFront b (K.taken sink.old) (K.taken sink.new)) }
 
-    // The record of the seed with so many drawn lines; nothing is read.
+    // The record of the seed with n drawn lines; nothing is read.
     ensures generated { (seed : ℕ) → (count : ℕ) → IsGen words.now seed count → result ≡ Status.Ok
         → Appends (K.taken sink.old) (K.taken sink.new) (made_record seed count) }
-    ensures generates { (seed : ℕ) → (count : ℕ) → IsGen words.now seed count → IsOfWriting result × (source.new ≡ source.old) }
+    ensures generates { (seed : ℕ) → (count : ℕ) → IsGen words.now seed count → IsOfWriting result
+        × (source.new ≡ source.old) }
 
     // At most 67108865 octets are taken from the source; with other words source and sink are left alone.
     ensures taken { TakesAtMost 67108865 (S.left source.old) (S.left source.new) }
@@ -66,7 +73,8 @@ pub fn tool<S: Source, K: Sink>(
     // Faults have their causes.
     ensures read { result ≡ Status.ReadFault → Rose (S.faults source.old) (S.faults source.new) }
     ensures write { result ≡ Status.WriteFault → Rose (K.faults sink.old) (K.faults sink.new) }
-    ensures later { (S.faults source.old ≤ S.faults source.new) × (K.faults sink.old ≤ K.faults sink.new) }
+    ensures later { (S.faults source.old ≤ S.faults source.new)
+        × (K.faults sink.old ≤ K.faults sink.new) }
 {
     if is_word(words, "replay") {
         return replay_record(alloc, source, sink);

@@ -17,7 +17,7 @@ use Rattle.report_block.specs.EntryOctets.{note_octets, kept_of, kept_with, IsKe
 use Rattle.report_block.specs.Events.{pieces_of, AreInOrder}
 
 module _ (stored : List Stored) (shapes : List MemberShape) where
-  -- the octets of the member at a place, and of those behind it
+  -- the octets of the member at a place, and of those after it
   all-next : (r : Reasons) (place : ℕ) → place < length shapes
       → note_octets stored shapes (all_from r (suc place) (drop place shapes))
       ≡ kept_octets_of (kept_with stored (slice_index_or shapes place no_shape) (record { member = record { 0 = place + 1 }; reasons = r })) ++ note_octets stored shapes (all_from r (suc (place + 1)) (drop (place + 1) shapes))

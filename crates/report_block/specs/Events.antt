@@ -16,7 +16,7 @@ use Rattle.report_block.specs.EntryOctets.{kept_of, note_octets}
 abbrev pub pieces_of : List Stored → List MemberShape → List Mention → List Piece
 pieces_of stored shapes note = map (λ (m : Mention). piece_of (kept_of stored shapes m)) note
 
--- room for what is kept of an event of so many members: of one member, and of each
+-- memory for what is kept of an event of n members: of one member, and of each
 abbrev pub HasRoom : ℕ → EventRoom → Type 0
 HasRoom n r = (504 ≤ r.one.room) × (n ≤ r.each.members) × (504 * n ≤ r.each.room)
 

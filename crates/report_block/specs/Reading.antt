@@ -40,7 +40,7 @@ foretold_if false now part = with_group (moment_of (over_at now part.window)) (n
 abbrev pub foretold : ℕ → ℕ → ReportBlock → Newest
 foretold was now part = foretold_if (is_due was now part) now part
 
--- component comp, with so many entries
+-- component comp, with n entries
 abbrev pub read_with : Newest → Comp → ℕ → ReportBlock → Value
 read_with w comp now part = read_of comp (record { front = part.ring.front; len = w.count }) w.moment now part.block
 

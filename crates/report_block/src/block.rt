@@ -46,7 +46,8 @@ fn moved(set: Option<usize>, gone: usize) -> Option<usize>
 }
 
 impl ReportBlock {
-    ghost use Rattle.std.specs.Prelude.{◌≡◌, ◌≤◌, ◌*◌, ◌==◌, not, false, length, None, Some, IfOk, if◌then◌else◌};
+    ghost use Rattle.std.specs.Prelude.{◌≡◌, ◌≤◌, ◌*◌, ◌==◌, not, false, length, None, Some, IfOk};
+    ghost use Rattle.std.specs.Prelude.{if◌then◌else◌};
     ghost use Rattle.std.specs.List.{All};
     ghost use Rattle.bay_model.specs.Configured.{block_defined};
     ghost use Rattle.bay_model.specs.Reports.{report_id as report_id_of};
@@ -62,7 +63,7 @@ impl ReportBlock {
     ghost use Rattle.report_block.specs.Writes.{settled, lost_by, renumbered, reported_by};
 
     /// A block as it is configured, with the data set of this number, no entry and nothing gathered. It takes all the memory that it
-    /// needs, its entries' and that of a group of so many members, as many as any data set has.
+    /// needs, its entries' and that of a group of n members, as many as any data set has.
     pub fn open(
         alloc: Global,
         def: &BlockDef,

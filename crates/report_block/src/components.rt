@@ -53,7 +53,8 @@ impl ReportBlock {
         requires window { 504 * self.old.window.members ≤ octets.old.room }
         ensures interrogated { self.new ≡ record self.old {
           window = empty_window self.old.window.members self.old.block.options.buf_tm;
-          ring = after_bodies self.old.ring (body_of step self.old.window.gathered ++ body_at now step (all_pieces store.now set.now for_general) ∷ []);
+          ring = after_bodies self.old.ring (body_of step self.old.window.gathered
+              ++ body_at now step (all_pieces store.now set.now for_general) ∷ []);
         } }
         ensures room { octets.new.room ≡ octets.old.room }
     {
@@ -76,7 +77,8 @@ impl ReportBlock {
         requires members { All (IsWritable store.now) set.now }
         requires room { 504 * length set.now ≤ octets.old.room }
         requires window { 504 * self.old.window.members ≤ octets.old.room }
-        ensures brought { self.new ≡ brought now step (all_pieces store.now set.now for_general) effect self.old }
+        ensures brought { self.new ≡ brought now step
+            (all_pieces store.now set.now for_general) effect self.old }
         ensures room { octets.new.room ≡ octets.old.room }
     {
         match effect {
@@ -108,7 +110,9 @@ impl ReportBlock {
         requires room { 504 * length set.now ≤ octets.old.room }
         requires window { 504 * self.old.window.members ≤ octets.old.room }
         ensures answer { result ≡ without_effect (any_answer written.now now self.old) }
-        ensures written { self.new ≡ after_any written.now now step (all_pieces store.now set.now for_general) self.old (any_answer written.now now self.old) }
+        ensures written { self.new ≡ after_any written.now now step
+            (all_pieces store.now set.now for_general) self.old
+            (any_answer written.now now self.old) }
         ensures room { octets.new.room ≡ octets.old.room }
     {
         let Written {

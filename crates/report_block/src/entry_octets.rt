@@ -5,7 +5,8 @@ ghost use Rattle.std.specs.List.{All};
 ghost use Rattle.bay_model.specs.Retained.{weight_of as weight_if, kept_octets_of};
 ghost use Rattle.value_store.specs.Written.{adds};
 ghost use Rattle.report_block.specs.Alls.{all_from};
-ghost use Rattle.report_block.specs.EntryOctets.{kept_with, note_octets, weights, IsWritable, IsKeepable};
+ghost use Rattle.report_block.specs.EntryOctets.{kept_with, note_octets, weights, IsWritable};
+ghost use Rattle.report_block.specs.EntryOctets.{IsKeepable};
 
 use bay_model::{MemberShape, Mention, Reasons};
 use bay_rooms::Fixed;
@@ -34,7 +35,8 @@ pub(crate) fn put_mention(store: &Store, shape: &MemberShape, mention: Mention, 
     requires number { mention.member.0 < 2 ^ 16 }
     requires writable { IsWritable store.now shape.now }
     requires room { length octets.old.items + 504 ≤ octets.old.room }
-    ensures { octets.new ≡ adds octets.old (kept_octets_of (kept_with store.now shape.now mention)) }
+    ensures { octets.new ≡ adds octets.old
+        (kept_octets_of (kept_with store.now shape.now mention)) }
 {
     let number = mention.member.0;
     let weights = weights_of(mention.reasons);
@@ -47,7 +49,11 @@ pub(crate) fn put_all(store: &Store, set: &SetView<'_>, reasons: Reasons, octets
     requires few { length set.now ≤ 256 }
     requires members { All (IsWritable store.now) set.now }
     requires room { 504 * length set.now ≤ octets.old.room }
-    ensures { octets.new ≡ record { items = note_octets store.now set.now (all_from reasons 1 set.now); room = octets.old.room } }
+    ensures { octets.new ≡ record {
+      items = note_octets store.now set.now
+          (all_from reasons 1 set.now);
+      room = octets.old.room;
+    } }
 {
     octets.clear();
     for place in 0..set.len() {
@@ -64,7 +70,10 @@ pub(crate) fn put_all(store: &Store, set: &SetView<'_>, reasons: Reasons, octets
 pub(crate) fn put_note(store: &Store, set: &SetView<'_>, note: &[Mention], octets: &mut Fixed)
     requires members { All (IsKeepable store.now set.now) note.now }
     requires room { 504 * length note.now ≤ octets.old.room }
-    ensures { octets.new ≡ record { items = note_octets store.now set.now note.now; room = octets.old.room } }
+    ensures { octets.new ≡ record {
+      items = note_octets store.now set.now note.now;
+      room = octets.old.room;
+    } }
 {
     octets.clear();
     for mention in note {

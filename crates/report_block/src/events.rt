@@ -15,7 +15,7 @@ use std::alloc::{AllocError, Global};
 use sv_base::Moment;
 use value_store::Store;
 
-/// Room for what is kept of an event: of one member, and of each.
+/// Memory for what is kept of an event: of one member, and of each.
 #[derive(Drop)]
 pub struct EventRoom {
     one: Fixed,
@@ -58,7 +58,7 @@ impl EventRoom {
     ghost use Rattle.std.specs.Prelude.{IfOk};
     ghost use Rattle.report_block.specs.Events.{HasRoom};
 
-    /// Room for the events of a data set of so many members, at most 256.
+    /// Memory for the events of a data set of n members, at most 256.
     pub fn new(alloc: Global, members: u32) -> Result<EventRoom, AllocError>
         requires { members ≤ 256 }
         ensures { IfOk result (λ r. HasRoom members r) }
@@ -95,7 +95,8 @@ impl ReportBlock {
         requires room { HasRoom (length note.now) room.old }
         requires octets { 504 * length note.now ≤ octets.old.room }
         requires window { 504 * self.old.window.members ≤ octets.old.room }
-        ensures noted { self.new ≡ after_noting now step (pieces_of store.now set.now note.now) self.old }
+        ensures noted { self.new ≡ after_noting now step
+            (pieces_of store.now set.now note.now) self.old }
         ensures room { (n : ℕ) → HasRoom n room.old → HasRoom n room.new }
         ensures octets { octets.new.room ≡ octets.old.room }
     {

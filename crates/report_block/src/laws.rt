@@ -23,16 +23,23 @@ ghost use Rattle.report_block.specs.Coming.{Coming, arrived, came, AreOf, IsComi
 pub fn report_blocks_stand()
     ensures opened { (c : Model) (b : ℕ) (part : ReportBlock)
         → part.block ≡ configured (block_of c b) → part.ring ≡ empty_ring (block_of c b).capacity
-        → part.window ≡ empty_window part.window.members (block_of c b).initial.buf_tm → part.origin ≡ None
+        → part.window ≡ empty_window part.window.members (block_of c b).initial.buf_tm
+        → part.origin ≡ None
         → Stands part c b [] }
-    ensures arrival { (c : Model) (b m n : ℕ) (before : Past) (part : ReportBlock) (all : List Piece)
-        → Stands part c b before → (integrity c b (arrival n m) before ≡ true → AreOf all (all_members c b (record no_reason { intg = true }) before before))
-        → Stands (arrived (now before) (now (arrival n m ∷ before)) n all part) c b (arrival n m ∷ before) }
-    ensures deed { (c : Model) (b m n : ℕ) (d : Deed) (before : Past) (part : ReportBlock) (k : Coming)
+    ensures arrival { (c : Model) (b m n : ℕ) (before : Past) (part : ReportBlock)
+        (all : List Piece)
+        → Stands part c b before → (integrity c b (arrival n m) before ≡ true
+        → AreOf all (all_members c b (record no_reason { intg = true }) before before))
+        → Stands (arrived (now before) (now (arrival n m ∷ before)) n all part) c b
+        (arrival n m ∷ before) }
+    ensures deed { (c : Model) (b m n : ℕ) (d : Deed) (before : Past)
+        (part : ReportBlock) (k : Coming)
         → Stands part c b (arrival n m ∷ before) → IsComing k c b m n d before
         → Stands (came b d (now (arrival n m ∷ before)) n k part) c b (at n m d ∷ before) }
     ensures again { (c : Model) (b m n : ℕ) (q : Point) (before : Past) (part : ReportBlock)
-        → m ≤ now (q ∷ before) → Stands part c b (q ∷ before) → Stands part c b (arrival n m ∷ q ∷ before) }
+        → m ≤ now (q ∷ before) → Stands part c b (q ∷ before)
+        → Stands part c b (arrival n m ∷ q ∷ before) }
     ensures idle { (was now step : ℕ) (all : List Piece) (part : ReportBlock)
-        → (part.block.options.intg_pd == 0) ≡ true → part.window.gathered ≡ None → arrived was now step all part ≡ part }
+        → (part.block.options.intg_pd == 0) ≡ true → part.window.gathered ≡ None
+        → arrived was now step all part ≡ part }
 {}

@@ -2,7 +2,8 @@
 
 ghost use Rattle.std.specs.Prelude.{◌≡◌, ◌<◌, ℕ, true, None, length, IfSome, if◌then◌else◌};
 ghost use Rattle.std.specs.Option.{option_map};
-ghost use Rattle.report_block.specs.Offers.{offered, offered_by, no_later, earlier, first_offered, retained_of};
+ghost use Rattle.report_block.specs.Offers.{offered, offered_by, no_later, earlier, first_offered};
+ghost use Rattle.report_block.specs.Offers.{retained_of};
 ghost use Rattle.brcb_state.specs.Changes.{next_to};
 
 use crate::block::ReportBlock;

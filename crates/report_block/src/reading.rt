@@ -2,7 +2,8 @@
 //! entries that time will bring until then are foretold, and nothing changes.
 
 ghost use Rattle.std.specs.Prelude.{◌≡◌};
-ghost use Rattle.report_block.specs.Reading.{with_entry as with_entry_of, with_group as with_group_of};
+ghost use Rattle.report_block.specs.Reading.{with_entry as with_entry_of};
+ghost use Rattle.report_block.specs.Reading.{with_group as with_group_of};
 
 use crate::block::ReportBlock;
 use bay_model::Comp;
@@ -96,7 +97,8 @@ impl ReportBlock {
         now: Moment,
     ) -> Result<Value, AllocError>
         ensures value { IfOk result (λ v. v ≡ reading was now comp self.now) }
-        ensures stands { IfOk result (λ v. (c : Model) (b n m : ℕ) (past : Past) → Stands self.now c b past → was ≡ moment_at past → now ≡ max m was
+        ensures stands { IfOk result (λ v. (c : Model) (b n m : ℕ) (past : Past)
+            → Stands self.now c b past → was ≡ moment_at past → now ≡ max m was
             → v ≡ read_component c b comp (arrival n m ∷ past)) }
     {
         // no moment lies above the last that a step can have

@@ -38,8 +38,10 @@ impl ReportBlock {
     ghost use Rattle.window_core.specs.Windows.{after_time, over_at};
     ghost use Rattle.window_core.specs.Standing.{body_of};
     ghost use Rattle.report_block.specs.Alls.{all_pieces, for_integrity};
-    ghost use Rattle.report_block.specs.Coming.{after_bodies, arrived, body_at, is_due as is_due_in, origin_after};
-    ghost use Rattle.report_block.specs.Due.{due_at as due_in, has_entries, next_integrity as next_integrity_in};
+    ghost use Rattle.report_block.specs.Coming.{after_bodies, arrived, body_at};
+    ghost use Rattle.report_block.specs.Coming.{is_due as is_due_in, origin_after};
+    ghost use Rattle.report_block.specs.Due.{due_at as due_in, has_entries};
+    ghost use Rattle.report_block.specs.Due.{next_integrity as next_integrity_in};
     ghost use Rattle.report_block.specs.EntryOctets.{IsWritable};
 
     /// The end of a period brings an entry: there is a data set, and TrgOps bit 4.
@@ -80,7 +82,10 @@ impl ReportBlock {
         requires few { length set.now ≤ 256 }
         requires members { All (IsWritable store.now) set.now }
         requires room { 504 * length set.now ≤ octets.old.room }
-        ensures kept { self.new ≡ record self.old { ring = after_bodies self.old.ring (body_at now step (all_pieces store.now set.now reasons) ∷ []) } }
+        ensures kept { self.new ≡ record self.old {
+          ring = after_bodies self.old.ring
+              (body_at now step (all_pieces store.now set.now reasons) ∷ []);
+        } }
         ensures room { octets.new.room ≡ octets.old.room }
     {
         put_all(store, set, reasons, octets);
@@ -127,7 +132,8 @@ impl ReportBlock {
         requires members { All (IsWritable store.now) set.now }
         requires room { 504 * length set.now ≤ octets.old.room }
         requires window { 504 * self.old.window.members ≤ octets.old.room }
-        ensures passed { self.new ≡ arrived was now step (all_pieces store.now set.now for_integrity) self.old }
+        ensures passed { self.new ≡ arrived was now step
+            (all_pieces store.now set.now for_integrity) self.old }
         ensures room { octets.new.room ≡ octets.old.room }
     {
         if self.is_due(was, now) {

@@ -272,7 +272,7 @@ list_name =
     let can : CanBeTag 128 = one_octet 128 (omega arith) (λ e. absurd (omega (arith, e))) in
     (written 161 k, written 128 (82 ∷ 80 ∷ 84 ∷ []), is_spelling 161 k (one_octet 161 (omega arith) (λ e. absurd (omega (arith, e)))) (omega arith), refl, written_last 128 (82 ∷ 80 ∷ 84 ∷ []) can (omega arith), refl, refl)
 
--- each PDU tells what it is made of
+-- each PDU says what it is made of
 pub pdu_tells : (r : Report) (segment : Option Segment) (ms : List Member) → CanBeCut r → CanBeRead r → sub_of segment < 2 ^ 32 → Ascend 0 r.total ms → AllByRecursion IsWhole ms → length (pdu r segment ms) < 2 ^ 32
     → IsReportPart (pdu r segment ms) (told r segment ms)
 pdu_tells r segment ms h k lt up all small = (rpt, results r segment ms, pdu_is_report r segment ms small, list_name, is_results r segment ms h k lt up all, refl)

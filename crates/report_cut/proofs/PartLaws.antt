@@ -1,4 +1,4 @@
--- What is read of a PDU of a report is what it tells, and what it tells is read.
+-- What is read of a PDU of a report is what it says, and what it says is read.
 use Rattle.std.proofs.Common.{◌≡◌, ℕ, ◌^◌, ◌&&◌, cond, eqb, Bool, true, false, List, [], ◌∷◌, length, refl, sym, ap, subst, ◌∙◌, Option, Some, None, Ok, Err}
 use Rattle.std.specs.Prelude.{if◌then◌else◌}
 use Rattle.std.proofs.lemmas.Bool.{eqb-true, and_parts}
@@ -323,6 +323,6 @@ part_fault input f h = required_err (and_then (results_in input) told_by) f h
 pub part_exact : (input : List ℕ) → IsBytes input → Reads (λ (p : ReportPart). p) (part_at input) (IsReportPart input) (IsPartRefused input)
 part_exact input fits = one_refusal (part_at input) (IsReportPart input) Invalid (λ p e. part_found input p fits e) (λ p is. part_again input p fits is) (part_fault input)
 
--- a PDU tells one thing
+-- a PDU says one thing
 pub one_part : (input : List ℕ) (p q : ReportPart) → IsBytes input → IsReportPart input p → IsReportPart input q → p ≡ q
 one_part input p q fits is also = ok_is {F = ReportFault} p q (sym (part_again input p fits is) ∙ part_again input q fits also)

@@ -1,4 +1,4 @@
--- Fields in front are taken as the octets tell them.
+-- Fields in front are taken as the octets say them.
 use Rattle.std.proofs.Common.{◌≡◌, ℕ, cond, eqb, Bool, true, false, List, refl, sym, ap, subst, ◌∙◌, Option, Some, None, Ok}
 use Rattle.std.proofs.lemmas.Bool.{eqb-true, eq-eqb}
 use Rattle.list_laws.proofs.Options.{some_is, chosen}

@@ -1,4 +1,4 @@
--- The members that a PDU of a report tells, both ways.
+-- The members that a PDU of a report says, both ways.
 use Rattle.std.proofs.Common.{◌≡◌, ℕ, ◌+◌, eqb, Bool, true, false, List, [], ◌∷◌, ◌++◌, length, refl, sym, ap, subst, ◌∙◌, append_assoc, Some, Ok}
 use Rattle.std.proofs.lemmas.Bool.{eqb-true}
 use Rattle.std.proofs.lemmas.List.{nil_from_length, append-nil}
@@ -48,7 +48,7 @@ one_again referred reasoned n a b c x fits (is, p, q, r) =
 
 -- ---- all of them
 
--- what is told of members behind those so far
+-- what is told of members after those so far
 abbrev pub Told : Bool → Bool → ℕ → List Bool → List ℕ → List ℕ → List ℕ → List Member → List Member → Type 0
 Told referred reasoned n bits a b c so_far all = (ms : List Member) × (x y : List ℕ) × (all ≡ so_far ++ ms) × AreMarked n bits ms × AreTold referred reasoned a x b y c [] ms
 
@@ -79,7 +79,7 @@ members_again referred reasoned n (true ∷ bits) a x b y c so_far (m ∷ ms) fi
 begun : (octets rest : List ℕ) (e : Element) → Begins octets e rest → first_at octets ≡ Ok (e, rest)
 begun octets rest e (front, s, p) = ap first_at p ∙ first_again front rest e s
 
--- behind the references stand the Data
+-- after the references stand the Data
 pub references_end : (reasoned : Bool) (n : ℕ) (bits : List Bool) (a x b y c z : List ℕ) (ms : List Member) → AreMarked n bits ms → AreTold true reasoned a x b y c z ms → behind_each bits a ≡ Some x
 references_end reasoned n [] a x b y c z [] marked (p, q, r) = ap (λ (o : List ℕ). Some o) p
 references_end reasoned n [] a x b y c z (m ∷ ms) marked told = absurd marked
@@ -92,7 +92,7 @@ pub none_end : (reasoned : Bool) (a x b y c z : List ℕ) (ms : List Member) →
 none_end reasoned a x b y c z [] (p, q, r) = p
 none_end reasoned a x b y c z (m ∷ ms) (k, l, o, (none, same), q, r, more) = sym same ∙ none_end reasoned k x l y o z ms more
 
--- behind the Data stand the reasons
+-- after the Data stand the reasons
 pub values_end : (referred reasoned : Bool) (n : ℕ) (bits : List Bool) (a x b y c z : List ℕ) (ms : List Member) → AreMarked n bits ms → AreTold referred reasoned a x b y c z ms → behind_each bits b ≡ Some y
 values_end referred reasoned n [] a x b y c z [] marked (p, q, r) = ap (λ (o : List ℕ). Some o) q
 values_end referred reasoned n [] a x b y c z (m ∷ ms) marked told = absurd marked
@@ -101,7 +101,7 @@ values_end referred reasoned n (true ∷ bits) a x b y c z [] marked told = absu
 values_end referred reasoned n (true ∷ bits) a x b y c z (m ∷ ms) marked (k, l, o, p, (at, v, (e, s, within)), r, more) =
     let first = begun b l e (m.octets, s, at) in rw (first) (values_end referred reasoned (n + 1) bits k x l y o z ms marked.1 more)
 
--- octets behind elements are octets
+-- octets after elements are octets
 pub behind_bytes : (bits : List Bool) (octets rest : List ℕ) → IsBytes octets → behind_each bits octets ≡ Some rest → IsBytes rest
 behind_bytes [] octets rest fits h = subst (λ (o : List ℕ). IsBytes o) (some_is octets rest h) fits
 behind_bytes (false ∷ bits) octets rest fits h = behind_bytes bits octets rest fits h

@@ -1,4 +1,4 @@
--- Which octets tell one PDU of a report, and what (IEC 61850-8-1, mapping of the Report service; ISO 9506-2,
+-- Which octets say one PDU of a report, and what (IEC 61850-8-1, mapping of the Report service; ISO 9506-2,
 -- InformationReport).
 use Rattle.std.specs.Prelude.{◌≡◌, ℕ, ◌+◌, ◌*◌, ◌<◌, ◌≤◌, ◌^◌, Bool, true, false, List, [], ◌∷◌, ◌++◌, length}
 use Rattle.ber_grammar.specs.Octets.{big_endian}
@@ -107,7 +107,7 @@ IsResults octets p = (a b c d : List ℕ) × IsIdentity octets a p.report × IsF
 abbrev pub IsListName : List ℕ → Type 0
 IsListName names = (v k : Element) × Spells names v × (v.tag ≡ VARIABLE_LIST_NAME) × IsRow v.content (k ∷ []) × (k.tag ≡ VMD_SPECIFIC) × (k.content ≡ 0x52 ∷ 0x50 ∷ 0x54 ∷ [])
 
--- The octets are the PDU of a report that tells this. The number of the block is not sent: it is 0.
+-- The octets are the PDU of a report that says this. The number of the block is not sent: it is 0.
 abbrev pub IsReportPart : List ℕ → ReportPart → Type 0
 IsReportPart input p = (names results : List ℕ) × IsReport input names results × IsListName names × IsResults results p × (p.report.block.0 ≡ 0)
 

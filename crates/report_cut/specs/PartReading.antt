@@ -20,7 +20,7 @@ use Rattle.report_cut.specs.declared.fault.ReportFault.{ReportFault}
 use Rattle.report_cut.specs.declared.fault.ReportFault.TheVariants.{Invalid, Memory}
 use Rattle.report_cut.specs.Part.{no_reasons}
 
--- of want of memory nothing is said
+-- of out of memory nothing is said
 abbrev pub fault_of : ReportFault → Option ReportFault
 fault_of Invalid = Some Invalid
 fault_of Memory = None
@@ -118,7 +118,7 @@ member_at referred reasoned n a b c =
     and_then (taken_at BIT_STRING reasons_in reasoned no_reasons c) (λ z.
     Some (record { number = record { 0 = n }; reference = x.0; octets = y.0; reasons = z.0 }, x.1, y.1, z.1))))
 
--- the members behind those so far, of the bits from a number on, whose references, Data and reasons begin in three places
+-- the members after those so far, of the bits from a number on, whose references, Data and reasons begin in three places
 abbrev pub members_at : Bool → Bool → ℕ → List Bool → List ℕ → List ℕ → List ℕ → List Member → Option (List Member)
 members_at referred reasoned n [] a b c so_far = if length c == 0 then Some so_far else None
 members_at referred reasoned n (false ∷ bits) a b c so_far = members_at referred reasoned (n + 1) bits a b c so_far

@@ -1,4 +1,4 @@
--- What the PDUs of a report tell of it.
+-- What the PDUs of a report say of it.
 use Rattle.std.specs.Prelude.{ℕ, suc, Bool, true, false, nat_le, List, [], ◌∷◌, length, map, Option, Some, None, if◌then◌else◌, ◌<◌, ◌≤◌, ◌^◌, slice_index}
 use Rattle.std.specs.List.{AllByRecursion}
 use Rattle.ber_grammar.specs.Content.{IsVisible}
@@ -54,7 +54,7 @@ parts_from r sub (s ∷ t ∷ ss) = told r (Some (record { sub = sub; more = tru
 abbrev pub parts : Report → ℕ → List ReportPart
 parts r size = if nat_le (length (pdu r None r.members)) size then told r None r.members ∷ [] else parts_from r 0 (cut_from (fits r size) 0 r.members)
 
--- each PDU tells what stands beside it
+-- each PDU says what stands beside it
 abbrev pub AreParts : List (List ℕ) → List ReportPart → Type 0
 AreParts [] [] = Unit {0}
 AreParts [] (t ∷ ts) = ⊥

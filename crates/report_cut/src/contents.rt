@@ -5,7 +5,8 @@ ghost use Rattle.std.specs.Option.{option_map};
 ghost use Rattle.ber_grammar.specs.Octets.{big_endian};
 ghost use Rattle.bay_model.specs.Parameters.{bit as bit_at};
 ghost use Rattle.mms_elements.specs.Invoke.{below_at};
-ghost use Rattle.report_cut.specs.PartReading.{text_in, truth_in, moment_of, moment_in, id_in, options_in, inclusion_in, reasons_in};
+ghost use Rattle.report_cut.specs.PartReading.{text_in, truth_in, moment_of, moment_in, id_in};
+ghost use Rattle.report_cut.specs.PartReading.{options_in, inclusion_in, reasons_in};
 
 use bay_model::Reasons;
 use ber_view::{BitView, bits, text, uint};
@@ -58,7 +59,7 @@ fn unsigned_of(octets: &[u8]) -> u64
     n
 }
 
-/// The moment so many milliseconds into a day since the beginning of 1984.
+/// The moment n milliseconds into a day since the beginning of 1984.
 fn moment_at(ms: u64, days: u64) -> Option<Moment>
     ensures { result ≡ moment_of ms days }
 {

@@ -1,6 +1,7 @@
 //! A report, cut into PDUs (IEC 61850-8-1, segmentation of reports).
 
-ghost use Rattle.std.specs.Prelude.{◌≡◌, ◌+◌, ◌*◌, ◌++◌, ◌∷◌, ◌≤◌, ◌<◌, List, length, take, drop, suc, IfOk};
+ghost use Rattle.std.specs.Prelude.{◌≡◌, ◌+◌, ◌*◌, ◌++◌, ◌∷◌, ◌≤◌, ◌<◌, List, length, take, drop};
+ghost use Rattle.std.specs.Prelude.{suc, IfOk};
 ghost use Rattle.std.specs.List.{All, AllByRecursion, sum_by};
 ghost use Rattle.report_cut.specs.Sizes.{cost, fits_size};
 ghost use Rattle.report_cut.specs.Cutting.{taken, cut_from};
@@ -87,8 +88,10 @@ fn next(
     requires few { length rest.now ≤ 256 }
     requires short { All IsShort rest.now }
     ensures count { IfOk result (λ x. (0 < x.1) × (x.1 ≤ length rest.now)) }
-    ensures value { IfOk result (λ x. spelled report.now sub (cut_from (fits report.now size) sub rest.now)
-        ≡ x.0 ∷ spelled report.now (suc sub) (cut_from (fits report.now size) (suc sub) (drop x.1 rest.now))) }
+    ensures value { IfOk result (λ x. spelled report.now sub
+        (cut_from (fits report.now size) sub rest.now)
+        ≡ x.0 ∷ spelled report.now (suc sub) (cut_from (fits report.now size) (suc sub)
+        (drop x.1 rest.now))) }
 {
     let fixed = fixed_len(report, Some(Segment { sub, more: true }));
     let (end, n) = end_of(&report.opt_flds, rest, fixed, size);
@@ -111,7 +114,8 @@ fn segmented(alloc: Global, report: &Report, size: u32) -> Result<Pdus, AllocErr
     requires total { report.now.total ≤ 256 }
     requires few { length report.now.members ≤ 256 }
     requires short { All IsShort report.now.members }
-    ensures { IfOk result (λ p. p ≡ spelled report.now 0 (cut_from (fits report.now size) 0 report.now.members)) }
+    ensures { IfOk result (λ p. p ≡ spelled report.now 0
+        (cut_from (fits report.now size) 0 report.now.members)) }
 {
     let mut pdus = Vec::new(alloc);
     let mut rest = report.members.as_slice();
@@ -148,7 +152,7 @@ fn cut_pdus(alloc: Global, report: &Report, size: u32) -> Result<Pdus, AllocErro
 /// and the members' numbers ascend within them. RptID, DatSet and each reference have at most 129 octets, and each member's
 /// octets are one whole Data of at most 500.
 ///
-/// Fails only for want of memory.
+/// Fails only when out of memory.
 pub fn cut(alloc: Global, report: &Report, size: u32) -> Result<Pdus, AllocError>
     requires report { CanBeCut report.now }
     requires least { 1024 ≤ size }

@@ -4,7 +4,8 @@ ghost use Rattle.std.specs.Prelude.{◌≡◌, ◌++◌, ◌∷◌, List, [], �
 ghost use Rattle.ber_write.specs.Minimal.{octets_of, uint_octets, CanBeTag};
 ghost use Rattle.ber_write.specs.BitString.{bit_octets};
 ghost use Rattle.mms_data.specs.declared.tags.TheConstants.{UNSIGNED};
-ghost use Rattle.report_cut.specs.Fields.{optional, truth as truth_of, flags as flags_of, identity, time_octets as time_octets_of, first_fields};
+ghost use Rattle.report_cut.specs.Fields.{optional, truth as truth_of, flags as flags_of, identity};
+ghost use Rattle.report_cut.specs.Fields.{time_octets as time_octets_of, first_fields};
 ghost use Rattle.report_cut.specs.Fields.{further_fields, place, front};
 
 use crate::measure::bit;
@@ -17,7 +18,8 @@ use sv_base::{Bits, Moment};
 
 fn add_if(out: &mut Vec<u8>, asked: bool, tag: u32, content: &[u8]) -> Result<(), AllocError>
     requires { CanBeTag tag }
-    ensures { OnOk result (out.new.items ≡ out.old.items ++ optional asked (octets_of tag content.now)) }
+    ensures { OnOk result (out.new.items ≡ out.old.items ++ optional asked
+        (octets_of tag content.now)) }
 {
     if !asked {
         return Ok(());
@@ -26,7 +28,8 @@ fn add_if(out: &mut Vec<u8>, asked: bool, tag: u32, content: &[u8]) -> Result<()
 }
 
 fn add_uint_if(out: &mut Vec<u8>, asked: bool, value: u64) -> Result<(), AllocError>
-    ensures { OnOk result (out.new.items ≡ out.old.items ++ optional asked (octets_of UNSIGNED (uint_octets value))) }
+    ensures { OnOk result (out.new.items ≡ out.old.items ++ optional asked
+        (octets_of UNSIGNED (uint_octets value))) }
 {
     if !asked {
         return Ok(());
@@ -55,7 +58,8 @@ fn put_identity(
     segment: Option<Segment>,
 ) -> Result<(), AllocError>
     requires { length report.now.opt_flds ≡ 10 }
-    ensures { OnOk result (out.new.items ≡ out.old.items ++ identity report.now.rpt_id report.now.opt_flds segment) }
+    ensures { OnOk result (out.new.items ≡ out.old.items
+        ++ identity report.now.rpt_id report.now.opt_flds segment) }
 {
     let flags = flags(alloc, &report.opt_flds, segment)?;
     add(out, tags::VISIBLE_STRING, report.rpt_id.as_slice())?;
@@ -75,7 +79,8 @@ fn time_octets(time: Moment) -> [u8; 6]
 /// Adds SqNum, TimeofEntry and DatSet where they are asked for.
 #[tactic(auto, unfolding(crate::specs::Fields::first_fields))]
 fn put_first(out: &mut Vec<u8>, report: &Report) -> Result<(), AllocError>
-    ensures { OnOk result (out.new.items ≡ out.old.items ++ first_fields report.now.opt_flds report.now.sq report.now.time report.now.dat_set) }
+    ensures { OnOk result (out.new.items ≡ out.old.items
+        ++ first_fields report.now.opt_flds report.now.sq report.now.time report.now.dat_set) }
 {
     add_uint_if(out, bit(&report.opt_flds, 1), report.sq as u64)?;
     add_if(
@@ -101,7 +106,8 @@ fn truth(b: bool) -> [u8; 1]
 /// Adds BufOvfl, EntryID and ConfRev where they are asked for.
 #[tactic(auto, unfolding(crate::specs::Fields::further_fields))]
 fn put_further(out: &mut Vec<u8>, report: &Report) -> Result<(), AllocError>
-    ensures { OnOk result (out.new.items ≡ out.old.items ++ further_fields report.now.opt_flds report.now.ovfl report.now.id report.now.conf_rev) }
+    ensures { OnOk result (out.new.items ≡ out.old.items
+        ++ further_fields report.now.opt_flds report.now.ovfl report.now.id report.now.conf_rev) }
 {
     add_if(
         out,

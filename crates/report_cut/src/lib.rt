@@ -1,7 +1,7 @@
 //! Reports as MMS PDUs (IEC 61850-8-1, mapping of the Report service; ISO 9506-2, InformationReport).
 //!
 //! [`cut`] gives the PDUs of a report: one where that fits the size, else segments, each with as many members as fit.
-//! [`read_report`] gives what one such PDU tells. The laws are functions that run nothing.
+//! [`read_report`] gives what one such PDU says. The laws are functions that run nothing.
 #![tactic(auto)]
 
 mod contents;
@@ -24,7 +24,7 @@ pub use cutting::cut;
 pub use pdus::Pdus;
 pub use segment::Segment;
 
-// what one PDU tells
+// what one PDU says
 pub use fault::ReportFault;
 pub use part::ReportPart;
 pub use reading::read_report;

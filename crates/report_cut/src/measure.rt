@@ -4,7 +4,8 @@ ghost use Rattle.std.specs.Prelude.{◌≡◌, ◌+◌, ◌≤◌, ◌<◌, ◌^
 ghost use Rattle.bay_model.specs.Parameters.{bit as bit_at};
 ghost use Rattle.ber_write.specs.Minimal.{uint_octets, element_size};
 ghost use Rattle.report_cut.specs.Fields.{identity, first_fields, further_fields, place, front};
-ghost use Rattle.report_cut.specs.Sizes.{size_if as if_asked, cost, inclusion_size, fixed_size, framed as framed_of};
+ghost use Rattle.report_cut.specs.Sizes.{size_if as if_asked, cost, inclusion_size, fixed_size};
+ghost use Rattle.report_cut.specs.Sizes.{framed as framed_of};
 
 use crate::segment::Segment;
 use bay_model::{Member, Report};
@@ -18,7 +19,7 @@ pub(crate) fn bit(opts: &Bits, i: usize) -> bool
     opts.get(i).unwrap_or(false)
 }
 
-/// How many octets an element has whose content has so many.
+/// How many octets an element has whose content has that many.
 #[tactic(auto, unfolding(ber_write::specs::Minimal::element_size), using(ber_write::proofs::LengthLaws::at_most_five))]
 pub(crate) fn element_len(n: u32) -> u32
     requires { n < 2 ^ 24 }
@@ -63,7 +64,8 @@ fn identity_len(report: &Report, segment: Option<Segment>) -> u32
 #[tactic(auto, using(crate::proofs::SizeLaws::length_of_first_fields))]
 fn first_len(report: &Report) -> u32
     requires { length report.now.dat_set ≤ 129 }
-    ensures value { result ≡ length (first_fields report.now.opt_flds report.now.sq report.now.time report.now.dat_set) }
+    ensures value { result ≡ length
+        (first_fields report.now.opt_flds report.now.sq report.now.time report.now.dat_set) }
     ensures few { result ≤ 158 }
 {
     let sq = size_if(bit(&report.opt_flds, 1), uint_element_len(report.sq as u64));
@@ -74,7 +76,8 @@ fn first_len(report: &Report) -> u32
 
 #[tactic(auto, using(crate::proofs::SizeLaws::length_of_further_fields))]
 fn further_len(report: &Report) -> u32
-    ensures value { result ≡ length (further_fields report.now.opt_flds report.now.ovfl report.now.id report.now.conf_rev) }
+    ensures value { result ≡ length
+        (further_fields report.now.opt_flds report.now.ovfl report.now.id report.now.conf_rev) }
     ensures few { result ≤ 28 }
 {
     let ovfl = size_if(bit(&report.opt_flds, 6), 3);
@@ -127,7 +130,7 @@ pub(crate) fn cost_of(opts: &Bits, member: &Member) -> u32
     reference + member.octets.len() as u32 + reasons
 }
 
-/// How many octets the PDU round so many octets of results has.
+/// How many octets the PDU round n octets of results has.
 #[tactic(auto, unfolding(crate::specs::Sizes::framed))]
 pub(crate) fn framed(n: u32) -> u32
     requires { n < 2 ^ 23 }

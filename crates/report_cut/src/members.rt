@@ -2,7 +2,8 @@
 
 ghost use Rattle.std.specs.Prelude.{◌≡◌, ◌++◌, ◌≤◌, ◌<◌, List, length, OnOk, IfOk};
 ghost use Rattle.ber_write.specs.BitString.{weigh as weigh_of};
-ghost use Rattle.report_cut.specs.Fields.{included as included_of, inclusion, references, values, reason_octet as reason_octet_of, reasons, optional, body};
+ghost use Rattle.report_cut.specs.Fields.{included as included_of, inclusion, references, values};
+ghost use Rattle.report_cut.specs.Fields.{reason_octet as reason_octet_of, reasons, optional, body};
 
 use crate::measure::bit;
 use bay_model::{Member, Reasons, Report};
@@ -83,7 +84,8 @@ fn put_reasons(out: &mut Vec<u8>, members: &[Member]) -> Result<(), AllocError>
 }
 
 fn put_references_if(out: &mut Vec<u8>, asked: bool, members: &[Member]) -> Result<(), AllocError>
-    ensures { OnOk result (out.new.items ≡ out.old.items ++ optional asked (references members.now)) }
+    ensures { OnOk result (out.new.items ≡ out.old.items ++ optional asked
+        (references members.now)) }
 {
     if !asked {
         return Ok(());

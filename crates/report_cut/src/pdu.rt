@@ -16,7 +16,7 @@ use mms_elements::tags;
 use std::alloc::{AllocError, Global};
 use sv_base::Octs;
 
-/// Adds what comes in front of so many octets of results.
+/// Adds what comes in front of n octets of results.
 #[tactic(auto, unfolding(crate::specs::Framed::opening))]
 fn put_opening(out: &mut Vec<u8>, n: u32) -> Result<(), AllocError>
     requires { n < 2 ^ 23 }
@@ -38,13 +38,14 @@ fn put_results(
     members: &[Member],
 ) -> Result<(), AllocError>
     requires { length report.now.opt_flds ≡ 10 }
-    ensures { OnOk result (out.new.items ≡ out.old.items ++ results report.now segment members.now) }
+    ensures { OnOk result (out.new.items ≡ out.old.items
+        ++ results report.now segment members.now) }
 {
     put_front(alloc, out, report, segment)?;
     put_body(alloc, out, report, members)
 }
 
-/// One PDU, of which the results have `n` octets, in a vector that has room for it and no more.
+/// One PDU, of which the results have `n` octets, in a vector that has capacity for it and no more.
 #[tactic(auto, using(crate::proofs::PduLaws::opened))]
 pub(crate) fn written(
     alloc: Global,

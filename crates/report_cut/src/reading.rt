@@ -6,7 +6,8 @@ ghost use Rattle.ber_grammar.specs.Reader.{and_then, GivesOrMemory, ReadsOrMemor
 ghost use Rattle.ber_grammar.specs.Steps.{required};
 ghost use Rattle.report_cut.specs.declared.fault.ReportFault.TheVariants.{Invalid};
 ghost use Rattle.report_cut.specs.Part.{IsReportPart, IsPartRefused};
-ghost use Rattle.report_cut.specs.PartReading.{fault_of, is_rpt, identity_at, first_fields_at, further_fields_at, place_at, body_at, results_in};
+ghost use Rattle.report_cut.specs.PartReading.{fault_of, is_rpt, identity_at, first_fields_at};
+ghost use Rattle.report_cut.specs.PartReading.{further_fields_at, place_at, body_at, results_in};
 ghost use Rattle.report_cut.specs.PartReading.{told_by, part_at};
 
 use crate::fault::ReportFault;
@@ -37,7 +38,8 @@ fn identity_of(octets: &[u8]) -> Option<(&[u8], BitView<'_>, &[u8])>
 /// SqNum, TimeofEntry and DatSet.
 #[tactic(auto, unfolding(crate::specs::PartReading::first_fields_at))]
 fn first_of<'a>(opts: &Bits, octets: &'a [u8]) -> Option<(u16, Moment, &'a [u8], &'a [u8])>
-    ensures { option_map (λ x. (x.0, x.1, x.2.now, x.3.now)) result ≡ first_fields_at opts.now octets.now }
+    ensures { option_map (λ x. (x.0, x.1, x.2.now, x.3.now)) result
+        ≡ first_fields_at opts.now octets.now }
 {
     let (sq, rest) = take_short(bit(opts, 1), octets)?;
     let Some((time, rest)) = take_time(bit(opts, 2), rest) else {
@@ -50,7 +52,8 @@ fn first_of<'a>(opts: &Bits, octets: &'a [u8]) -> Option<(u16, Moment, &'a [u8],
 /// BufOvfl, EntryID and ConfRev.
 #[tactic(auto, unfolding(crate::specs::PartReading::further_fields_at))]
 fn further_of<'a>(opts: &Bits, octets: &'a [u8]) -> Option<(bool, u64, u32, &'a [u8])>
-    ensures { option_map (λ x. (x.0, x.1, x.2, x.3.now)) result ≡ further_fields_at opts.now octets.now }
+    ensures { option_map (λ x. (x.0, x.1, x.2, x.3.now)) result
+        ≡ further_fields_at opts.now octets.now }
 {
     let (ovfl, rest) = take_truth(bit(opts, 6), octets)?;
     let (id, rest) = take_id(bit(opts, 7), rest)?;
@@ -68,7 +71,7 @@ fn place_of(segmented: bool, octets: &[u8]) -> Option<(u32, bool, &[u8])>
     Some((sub, more, rest))
 }
 
-/// What the results tell.
+/// What the results say.
 #[tactic(auto, unfolding(crate::specs::PartReading::told_by))]
 fn read_results(alloc: Global, results: &[u8]) -> Result<ReportPart, ReportFault>
     ensures { GivesOrMemory fault_of (λ p. p) result (required Invalid (told_by results.now)) }
@@ -140,15 +143,16 @@ fn read_part(alloc: Global, input: &[u8]) -> Result<ReportPart, ReportFault>
     }
 }
 
-/// What one PDU of a report tells: its fields as OptFlds says which there are, and its own members (IEC 61850-8-1, mapping of
+/// What one PDU of a report says: its fields as OptFlds says which there are, and its own members (IEC 61850-8-1, mapping of
 /// the Report service and segmentation of reports).
 ///
 /// Fails with `Invalid` where the octets are no such PDU: OptFlds has ten bits, the inclusion bits are 1 to 256, SqNum is
 /// below 65536, an EntryID has eight octets, a TimeofEntry is a moment's, and reasons are seven bits of which the first and
-/// the last are 0. `Memory` is want of memory.
+/// the last are 0. `Memory` is out of memory.
 pub fn read_report(alloc: Global, input: &[u8]) -> Result<ReportPart, ReportFault>
-    // What the octets tell where they are such a PDU, else that they are none.
-    ensures reads { ReadsOrMemory fault_of (λ p. p) result (IsReportPart input.now) (IsPartRefused input.now) }
+    // What the octets say where they are such a PDU, else that they are none.
+    ensures reads { ReadsOrMemory fault_of (λ p. p) result (IsReportPart input.now)
+        (IsPartRefused input.now) }
     ensures exact { GivesOrMemory fault_of (λ p. p) result (part_at input.now) }
 {
     read_part(alloc, input)

@@ -3,9 +3,12 @@
 ghost use Rattle.std.specs.Prelude.{◌≡◌, ◌≤◌, [], List, true, false, ◌^◌, length, IfSome};
 ghost use Rattle.std.specs.Option.{option_map};
 ghost use Rattle.mms_elements.specs.Invoke.{below_at};
-ghost use Rattle.mms_data.specs.declared.tags.TheConstants.{BINARY_TIME, BIT_STRING, BOOLEAN, OCTET_STRING, UNSIGNED, VISIBLE_STRING};
+ghost use Rattle.mms_data.specs.declared.tags.TheConstants.{BINARY_TIME, BIT_STRING, BOOLEAN};
+ghost use Rattle.mms_data.specs.declared.tags.TheConstants.{OCTET_STRING, UNSIGNED, VISIBLE_STRING};
 ghost use Rattle.report_cut.specs.Part.{no_reasons};
-ghost use Rattle.report_cut.specs.PartReading.{enclosed_at, field_at, taken_at, text_in, truth_in, moment_in, id_in, options_in, inclusion_in, reasons_in};
+ghost use Rattle.report_cut.specs.PartReading.{enclosed_at, field_at, taken_at, text_in, truth_in};
+ghost use Rattle.report_cut.specs.PartReading.{moment_in, id_in, options_in, inclusion_in};
+ghost use Rattle.report_cut.specs.PartReading.{reasons_in};
 
 use crate::contents::{
     id_of, inclusion_of, number_of, options_of, reasons_of, short_of, text_of, time_of, truth_of,
@@ -30,7 +33,8 @@ pub(crate) fn enclosed(tag: u32, octets: &[u8]) -> Option<&[u8]>
 /// The content of the element in front, which has this tag, if it is asked for, and what follows.
 #[tactic(auto, unfolding(crate::specs::PartReading::field_at))]
 pub(crate) fn field(tag: u32, asked: bool, octets: &[u8]) -> Option<(Option<&[u8]>, &[u8])>
-    ensures { option_map (λ x. (option_map (λ c. c.now) x.0, x.1.now)) result ≡ field_at tag asked octets.now }
+    ensures { option_map (λ x. (option_map (λ c. c.now) x.0, x.1.now)) result
+        ≡ field_at tag asked octets.now }
 {
     if !asked {
         return Some((None, octets));
@@ -45,7 +49,8 @@ pub(crate) fn field(tag: u32, asked: bool, octets: &[u8]) -> Option<(Option<&[u8
 /// A visible string; else it is empty.
 #[tactic(auto, unfolding(crate::specs::PartReading::taken_at))]
 pub(crate) fn take_text(asked: bool, octets: &[u8]) -> Option<(&[u8], &[u8])>
-    ensures { option_map (λ x. (x.0.now, x.1.now)) result ≡ taken_at VISIBLE_STRING text_in asked [] octets.now }
+    ensures { option_map (λ x. (x.0.now, x.1.now)) result
+        ≡ taken_at VISIBLE_STRING text_in asked [] octets.now }
 {
     let (content, rest) = field(tags::VISIBLE_STRING, asked, octets)?;
     match content {
@@ -57,7 +62,8 @@ pub(crate) fn take_text(asked: bool, octets: &[u8]) -> Option<(&[u8], &[u8])>
 /// A boolean; else it is false.
 #[tactic(auto, unfolding(crate::specs::PartReading::taken_at))]
 pub(crate) fn take_truth(asked: bool, octets: &[u8]) -> Option<(bool, &[u8])>
-    ensures { option_map (λ x. (x.0, x.1.now)) result ≡ taken_at BOOLEAN truth_in asked false octets.now }
+    ensures { option_map (λ x. (x.0, x.1.now)) result
+        ≡ taken_at BOOLEAN truth_in asked false octets.now }
 {
     let (content, rest) = field(tags::BOOLEAN, asked, octets)?;
     match content {
@@ -69,7 +75,8 @@ pub(crate) fn take_truth(asked: bool, octets: &[u8]) -> Option<(bool, &[u8])>
 /// A number of 16 bits; else it is 0.
 #[tactic(auto, unfolding(crate::specs::PartReading::taken_at))]
 pub(crate) fn take_short(asked: bool, octets: &[u8]) -> Option<(u16, &[u8])>
-    ensures { option_map (λ x. (x.0, x.1.now)) result ≡ taken_at UNSIGNED (below_at 65536) asked 0 octets.now }
+    ensures { option_map (λ x. (x.0, x.1.now)) result ≡ taken_at UNSIGNED
+        (below_at 65536) asked 0 octets.now }
 {
     let (content, rest) = field(tags::UNSIGNED, asked, octets)?;
     match content {
@@ -81,7 +88,8 @@ pub(crate) fn take_short(asked: bool, octets: &[u8]) -> Option<(u16, &[u8])>
 /// A number of 32 bits; else it is 0.
 #[tactic(auto, unfolding(crate::specs::PartReading::taken_at))]
 pub(crate) fn take_number(asked: bool, octets: &[u8]) -> Option<(u32, &[u8])>
-    ensures { option_map (λ x. (x.0, x.1.now)) result ≡ taken_at UNSIGNED (below_at (2 ^ 32)) asked 0 octets.now }
+    ensures { option_map (λ x. (x.0, x.1.now)) result ≡ taken_at UNSIGNED
+        (below_at (2 ^ 32)) asked 0 octets.now }
 {
     let (content, rest) = field(tags::UNSIGNED, asked, octets)?;
     match content {
@@ -93,7 +101,8 @@ pub(crate) fn take_number(asked: bool, octets: &[u8]) -> Option<(u32, &[u8])>
 /// A binary time of a moment; else it is the least.
 #[tactic(auto, unfolding(crate::specs::PartReading::taken_at))]
 pub(crate) fn take_time(asked: bool, octets: &[u8]) -> Option<(Moment, &[u8])>
-    ensures { option_map (λ x. (x.0, x.1.now)) result ≡ taken_at BINARY_TIME moment_in asked 441763200000 octets.now }
+    ensures { option_map (λ x. (x.0, x.1.now)) result
+        ≡ taken_at BINARY_TIME moment_in asked 441763200000 octets.now }
 {
     let (content, rest) = field(tags::BINARY_TIME, asked, octets)?;
     match content {
@@ -105,7 +114,8 @@ pub(crate) fn take_time(asked: bool, octets: &[u8]) -> Option<(Moment, &[u8])>
 /// An EntryID; else it is 0.
 #[tactic(auto, unfolding(crate::specs::PartReading::taken_at))]
 pub(crate) fn take_id(asked: bool, octets: &[u8]) -> Option<(u64, &[u8])>
-    ensures { option_map (λ x. (x.0, x.1.now)) result ≡ taken_at OCTET_STRING id_in asked 0 octets.now }
+    ensures { option_map (λ x. (x.0, x.1.now)) result
+        ≡ taken_at OCTET_STRING id_in asked 0 octets.now }
 {
     let (content, rest) = field(tags::OCTET_STRING, asked, octets)?;
     match content {
@@ -125,7 +135,8 @@ const NO_REASON: Reasons = Reasons {
 /// ReasonForInclusion; else there is none.
 #[tactic(auto, unfolding(crate::specs::PartReading::taken_at))]
 pub(crate) fn take_reasons(asked: bool, octets: &[u8]) -> Option<(Reasons, &[u8])>
-    ensures { option_map (λ x. (x.0, x.1.now)) result ≡ taken_at BIT_STRING reasons_in asked no_reasons octets.now }
+    ensures { option_map (λ x. (x.0, x.1.now)) result
+        ≡ taken_at BIT_STRING reasons_in asked no_reasons octets.now }
 {
     let (content, rest) = field(tags::BIT_STRING, asked, octets)?;
     match content {
@@ -137,7 +148,8 @@ pub(crate) fn take_reasons(asked: bool, octets: &[u8]) -> Option<(Reasons, &[u8]
 /// OptFlds.
 #[tactic(auto, unfolding(crate::specs::PartReading::taken_at, crate::specs::PartReading::field_at))]
 pub(crate) fn take_options(octets: &[u8]) -> Option<(BitView<'_>, &[u8])>
-    ensures { option_map (λ x. (x.0, x.1.now)) result ≡ taken_at BIT_STRING options_in true [] octets.now }
+    ensures { option_map (λ x. (x.0, x.1.now)) result
+        ≡ taken_at BIT_STRING options_in true [] octets.now }
 {
     let (element, rest) = first(octets).ok()?;
     if element.tag != tags::BIT_STRING {
@@ -149,7 +161,8 @@ pub(crate) fn take_options(octets: &[u8]) -> Option<(BitView<'_>, &[u8])>
 /// The inclusion bits.
 #[tactic(auto, unfolding(crate::specs::PartReading::taken_at, crate::specs::PartReading::field_at))]
 pub(crate) fn take_inclusion(octets: &[u8]) -> Option<(BitView<'_>, &[u8])>
-    ensures value { option_map (λ x. (x.0, x.1.now)) result ≡ taken_at BIT_STRING inclusion_in true [] octets.now }
+    ensures value { option_map (λ x. (x.0, x.1.now)) result
+        ≡ taken_at BIT_STRING inclusion_in true [] octets.now }
     ensures few { IfSome result (λ x. length x.0 ≤ 256) }
 {
     let (element, rest) = first(octets).ok()?;

@@ -1,13 +1,15 @@
-//! The members that a PDU of a report tells, read (IEC 61850-8-1, mapping of the Report service).
+//! The members that a PDU of a report says, read (IEC 61850-8-1, mapping of the Report service).
 
-ghost use Rattle.std.specs.Prelude.{◌≡◌, ◌+◌, ◌≤◌, ◌<◌, [], List, length, IfOk, IfSome, if◌then◌else◌, Some};
+ghost use Rattle.std.specs.Prelude.{◌≡◌, ◌+◌, ◌≤◌, ◌<◌, [], List, length, IfOk, IfSome};
+ghost use Rattle.std.specs.Prelude.{if◌then◌else◌, Some};
 ghost use Rattle.std.specs.Option.{option_map};
 ghost use Rattle.ber_grammar.specs.Element.{Element};
 ghost use Rattle.ber_grammar.specs.Reader.{GivesOrMemory};
 ghost use Rattle.ber_grammar.specs.Steps.{required};
 ghost use Rattle.ber_view.specs.View.{element};
 ghost use Rattle.report_cut.specs.declared.fault.ReportFault.TheVariants.{Invalid};
-ghost use Rattle.report_cut.specs.PartReading.{fault_of, is_data as is_data_of, data_in, behind_each, member_at, members_at, body_at};
+ghost use Rattle.report_cut.specs.PartReading.{fault_of, is_data as is_data_of, data_in};
+ghost use Rattle.report_cut.specs.PartReading.{behind_each, member_at, members_at, body_at};
 
 use crate::fault::ReportFault;
 use crate::taking::{take_inclusion, take_reasons, take_text};
@@ -60,7 +62,7 @@ struct Places<'a> {
     reasons: &'a [u8],
 }
 
-/// The member with a number, and the places behind it.
+/// The member with a number, and the places after it.
 #[tactic(auto, unfolding(crate::specs::PartReading::member_at))]
 fn read_member<'a>(
     alloc: Global,
@@ -69,8 +71,10 @@ fn read_member<'a>(
     number: u32,
     places: Places<'a>,
 ) -> Result<(Member, Places<'a>), ReportFault>
-    ensures { GivesOrMemory fault_of (λ x. (x.0, x.1.references.now, x.1.values.now, x.1.reasons.now)) result
-        (required Invalid (member_at referred reasoned number places.entry.references.now places.entry.values.now places.entry.reasons.now)) }
+    ensures { GivesOrMemory fault_of
+        (λ x. (x.0, x.1.references.now, x.1.values.now, x.1.reasons.now)) result
+        (required Invalid (member_at referred reasoned number places.entry.references.now
+        places.entry.values.now places.entry.reasons.now)) }
 {
     let Some((reference, references)) = take_text(referred, places.references) else {
         return Err(ReportFault::Invalid);
@@ -97,7 +101,7 @@ fn read_member<'a>(
     ))
 }
 
-/// The members behind those so far, one for each bit that is set.
+/// The members after those so far, one for each bit that is set.
 fn read_members(
     alloc: Global,
     referred: bool,
@@ -109,7 +113,8 @@ fn read_members(
 ) -> Result<Vec<Member>, ReportFault>
     requires { number + length bits.now < 1000 }
     ensures { GivesOrMemory fault_of (λ v. v.items) result
-        (required Invalid (members_at referred reasoned number bits.now places.entry.references.now places.entry.values.now
+        (required Invalid (members_at referred reasoned number bits.now places.entry.references.now
+        places.entry.values.now
         places.entry.reasons.now so_far.items)) }
 {
     match bits {
@@ -138,7 +143,8 @@ fn read_members(
 }
 
 fn behind_if<'a>(asked: bool, bits: &[bool], octets: &'a [u8]) -> Option<&'a [u8]>
-    ensures { option_map (λ x. x.now) result ≡ (if asked then behind_each bits.now octets.now else Some octets.now) }
+    ensures { option_map (λ x. x.now) result ≡ (if asked then behind_each bits.now octets.now
+        else Some octets.now) }
 {
     if !asked {
         return Some(octets);
@@ -146,7 +152,7 @@ fn behind_if<'a>(asked: bool, bits: &[bool], octets: &'a [u8]) -> Option<&'a [u8
     behind(bits, octets)
 }
 
-/// How many members the data set has, and those that the PDU tells.
+/// How many members the data set has, and those that the PDU says.
 #[tactic(auto, unfolding(crate::specs::PartReading::body_at))]
 pub(crate) fn read_body(
     alloc: Global,
@@ -154,7 +160,8 @@ pub(crate) fn read_body(
     reasoned: bool,
     octets: &[u8],
 ) -> Result<(u32, Members), ReportFault>
-    ensures { GivesOrMemory fault_of (λ x. (x.0, x.1)) result (required Invalid (body_at referred reasoned octets.now)) }
+    ensures { GivesOrMemory fault_of (λ x. (x.0, x.1)) result
+        (required Invalid (body_at referred reasoned octets.now)) }
 {
     let Some((view, references)) = take_inclusion(octets) else {
         return Err(ReportFault::Invalid);

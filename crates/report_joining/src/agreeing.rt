@@ -23,7 +23,8 @@ fn are_same_bits(a: &Bits, b: &Bits) -> bool
 /// RptID, OptFlds and DatSet are the same.
 fn has_same_texts(a: &Report, b: &Report) -> bool
     ensures { IsTrue result
-        ↔ (a.now.rpt_id ≡ b.now.rpt_id) × (a.now.opt_flds ≡ b.now.opt_flds) × (a.now.dat_set ≡ b.now.dat_set) }
+        ↔ (a.now.rpt_id ≡ b.now.rpt_id) × (a.now.opt_flds ≡ b.now.opt_flds)
+        × (a.now.dat_set ≡ b.now.dat_set) }
 {
     is_same_text(&a.rpt_id, &b.rpt_id)
         && are_same_bits(&a.opt_flds, &b.opt_flds)
@@ -32,14 +33,16 @@ fn has_same_texts(a: &Report, b: &Report) -> bool
 
 /// SqNum, TimeofEntry and BufOvfl are the same.
 fn has_same_place(a: &Report, b: &Report) -> bool
-    ensures { IsTrue result ↔ (a.now.sq ≡ b.now.sq) × (a.now.time ≡ b.now.time) × (a.now.ovfl ≡ b.now.ovfl) }
+    ensures { IsTrue result ↔ (a.now.sq ≡ b.now.sq) × (a.now.time ≡ b.now.time)
+        × (a.now.ovfl ≡ b.now.ovfl) }
 {
     a.sq == b.sq && a.time == b.time && a.ovfl == b.ovfl
 }
 
 /// EntryID, ConfRev and the count of the data set's members are the same.
 fn has_same_numbers(a: &Report, b: &Report) -> bool
-    ensures { IsTrue result ↔ (a.now.id ≡ b.now.id) × (a.now.conf_rev ≡ b.now.conf_rev) × (a.now.total ≡ b.now.total) }
+    ensures { IsTrue result ↔ (a.now.id ≡ b.now.id) × (a.now.conf_rev ≡ b.now.conf_rev)
+        × (a.now.total ≡ b.now.total) }
 {
     a.id == b.id && a.conf_rev == b.conf_rev && a.total == b.total
 }

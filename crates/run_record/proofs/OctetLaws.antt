@@ -37,7 +37,7 @@ one-told line i x is = (
   λ clear. is ∙ clear i (omega arith) (omega arith),
 )
 
--- behind one octet more
+-- after one octet more
 shift : (p : ℕ) (line : List ℕ) (k : ℕ) → 1 ≤ k → is_fault (p ∷ line) (suc k) ≡ is_fault line k
 shift p line zero some = absurd (omega arith)
 shift p line (suc k) some =
@@ -46,7 +46,7 @@ shift p line (suc k) some =
     let f : suc k - 1 ≡ k = omega arith in
     ap (λ i. fault (get_or line (suc k) 0) (get_or (p ∷ line) i 0)) e ∙ sym (ap (λ i. fault (get_or line (suc k) 0) (get_or line i 0)) f)
 
--- what no fault says of the octets behind the first
+-- what no fault says of the octets after the first
 to-rest : (p : ℕ) (bs : List ℕ) → IsFaultless (p ∷ bs) 1 (length (p ∷ bs)) → (get_or (p ∷ bs) (length bs) 0 == 32) ≡ false → (list_all is_printable bs ≡ true) × (empties (p == 32) bs ≡ false)
 to-rest p [] clear last = (refl, last)
 to-rest p (b ∷ bs) clear last =

@@ -27,7 +27,7 @@ use Rattle.run_record.proofs.WordLaws.{are-words, not-skipped}
 not-long : (text : List ℕ) → length text ≤ 140100 → list_all is_printable text ≡ true → is_long text ≡ false
 not-long text short all = or_from _ _ (le-ltb 140100 (length text) short) (ap not all)
 
--- a line of words is what the words behind the first tell
+-- a line of words is what the words after the first say
 pub read-words : (octet : ℕ) (octets : List ℕ) (more : List (List ℕ)) (keyword : Keyword) → length (join_with_byte 32 ((octet ∷ octets) ∷ more)) ≤ 140100 → list_all is_word ((octet ∷ octets) ∷ more) ≡ true
     → keyword_at (octet ∷ octets) ≡ Some keyword → (octet == 35) ≡ false → line_at (join_with_byte 32 ((octet ∷ octets) ∷ more)) ≡ content_at keyword more
 unfolding line_at tell_at

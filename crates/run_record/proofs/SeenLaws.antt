@@ -29,7 +29,7 @@ last-word text none = slice_split_none (λ b. b == 32) text none
 abbrev is_nothing : List ℕ → Bool
 is_nothing w = length w == 0
 
--- a word is empty, of those behind a word that is empty so far or not
+-- a word is empty, of those after a word that is empty so far or not
 abbrev pub empties : Bool → List ℕ → Bool
 empties so [] = so
 empties so (b ∷ bs) = (so && (b == 32)) || empties (b == 32) bs
@@ -64,11 +64,11 @@ told : (text : List ℕ) → Told text
 told [] = (refl, λ x. onto-any x [] [])
 told (b ∷ bs) = told-next b bs (b == 32) refl (told bs)
 
--- a word is empty exactly where a space stands first, last or behind another
+-- a word is empty exactly where a space stands first, last or after another
 pub empties-told : (text : List ℕ) → list_any is_nothing (words_of text) ≡ empties true text
 empties-told text = (told text).0
 
--- words of which one is empty tell nothing
+-- words of which one is empty say nothing
 pub empty-told : (ws : List (List ℕ)) → list_any is_nothing ws ≡ true → Err kinds.Word ≡ tell_at ws
 unfolding tell_at
 empty-told [] some = refl
@@ -91,7 +91,7 @@ pairs-counted text odd is =
     let count : length (words_of text) ≡ count_by (λ b. b == 32) text + 1 = length-slice_split (λ b. b == 32) text in
     is ∙ (parity (count_by (λ b. b == 32) text) ∙ ap (λ n. nat_lt 0 n && (n % 2 == 0)) (sym count))
 
--- what is told by so many words is what the words behind a first word tell
+-- what is told by n words is what the words after a first word say
 pub at_content : (ws : List (List ℕ)) (r : Result RecLine Kind) → r ≡ just (one_of ws) (λ word. numbered (number_within 441763200000 4294967295999 word) lines.At) → r ≡ content_at keywords.At ws
 unfolding content_at
 at_content [] r is = is

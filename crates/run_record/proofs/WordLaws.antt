@@ -8,7 +8,7 @@ use Rattle.text_words.specs.Values.{is_graphic}
 use Rattle.text_words.proofs.WordLaws.{AreWords}
 use Rattle.run_record.specs.Grammar.{is_word}
 
--- a word, and the others each behind a space
+-- a word, and the others each after a space
 pub joined : (word : List ℕ) (more : List (List ℕ)) → join_with_byte 32 (word ∷ more) ≡ word ++ flat_map spaced more
 joined word [] = sym (append-nil word)
 joined word (next ∷ more) = ap (λ rest. word ++ 32 ∷ rest) (joined next more)

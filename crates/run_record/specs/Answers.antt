@@ -7,7 +7,7 @@ use Rattle.run_record.specs.declared.fault.RecFault.{RecFault}
 use Rattle.run_record.specs.declared.fault.RecFault.TheVariants as faults
 use Rattle.run_record.specs.declared.line.RecLine.{RecLine}
 
--- The line that the text spells, or the kind for which there is a cause; of each text one of these holds. Of want of memory
+-- The line that the text spells, or the kind for which there is a cause; of each text one of these holds. Of out of memory
 -- nothing is said, and the other kinds are never answered.
 abbrev pub Answers : List ℕ → Result RecLine RecFault → Type 0
 Answers text (Ok line) = Spells text line

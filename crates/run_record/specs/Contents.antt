@@ -1,4 +1,4 @@
--- What the words behind a line's first word tell.
+-- What the words after a line's first word say.
 use Rattle.std.specs.Prelude.{ℕ, ◌==◌, ◌&&◌, ◌%◌, nat_lt, Bool, List, [], ◌∷◌, length, codes, Option, Some, None, Result, Ok, Err, if◌then◌else◌}
 use Rattle.std.specs.Str.{bytes_eq}
 use Rattle.text_words.specs.Numbers.{number_within}
@@ -54,7 +54,7 @@ abbrev pub truth_line : Option Bool → (Bool → RecLine) → Result RecLine Ki
 truth_line None make = Err kinds.Word
 truth_line (Some b) make = Ok (make b)
 
--- what the words behind the first tell
+-- what the words after the first say
 unfoldable pub content_at : Keyword → List (List ℕ) → Result RecLine Kind
 content_at keywords.At (moment ∷ []) = numbered (number_within 441763200000 4294967295999 moment) lines.At
 content_at keywords.Open (a ∷ form) = opened (assoc_at a) (form_at form)

@@ -33,7 +33,7 @@ IsLine line = Unit {0}
 abbrev pub is_word : List ℕ → Bool
 is_word word = nat_le 1 (length word) && list_all is_graphic word
 
--- a line is its words with a space between each two; one that tells nothing is empty or a remark
+-- a line is its words with a space between each two; one that says nothing is empty or a remark
 abbrev pub IsText : List ℕ → RecLine → Type 0
 IsText text lines.Skip = IsSkipped text
 IsText text line = text ≡ spelled line

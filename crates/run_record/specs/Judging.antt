@@ -24,7 +24,7 @@ number_of kinds.Hex = 6
 number_of kinds.NoEnd = 7
 number_of kinds.Long = 8
 
--- what a function returned is what is read; of want of memory nothing is said
+-- what a function returned is what is read; of out of memory nothing is said
 abbrev pub Gives : {A : Type 0} → Result A RecFault → Result A Kind → Type 0
 Gives (Ok x) read = read ≡ Ok x
 Gives (Err (faults.Refused kind)) read = read ≡ Err kind
@@ -50,7 +50,7 @@ abbrev pub known_at : Option Keyword → List (List ℕ) → Result RecLine Kind
 known_at None told = Err kinds.Word
 known_at (Some keyword) told = content_at keyword told
 
--- what words tell: the first one is known, and none is empty
+-- what words say: the first one is known, and none is empty
 unfoldable pub tell_at : List (List ℕ) → Result RecLine Kind
 tell_at [] = Err kinds.Word
 tell_at (word ∷ more) = if list_any (λ w. length w == 0) (word ∷ more) then Err kinds.Word else known_at (keyword_at word) more
@@ -59,6 +59,6 @@ tell_at (word ∷ more) = if list_any (λ w. length w == 0) (word ∷ more) then
 abbrev pub is_long : List ℕ → Bool
 is_long text = nat_lt 140100 (length text) || not (list_all is_printable text)
 
--- what a line tells, or the first cause for which it is refused
+-- what a line says, or the first cause for which it is refused
 unfoldable pub line_at : List ℕ → Result RecLine Kind
 line_at text = if is_long text then Err kinds.Long else if is_skipped text then Ok lines.Skip else tell_at (words_of text)

@@ -5,7 +5,7 @@ use Rattle.text_words.specs.Octets.{is_printable}
 use Rattle.text_words.specs.Words.{words_of}
 use Rattle.run_record.specs.Judging.{is_long}
 
--- octet i stands in no line, or is a space behind a space
+-- octet i stands in no line, or is a space after a space
 abbrev pub is_fault : List ℕ → ℕ → Bool
 is_fault line i = not (is_printable (slice_index line i)) || ((slice_index line (i - 1) == 32) && (slice_index line i == 32))
 

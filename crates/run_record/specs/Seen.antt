@@ -22,7 +22,7 @@ words_in (Some text) = words_of text.now
 abbrev pub words_left : Words → List (List ℕ)
 words_left words = words_in words.rest
 
--- the words, if there are just so many
+-- the words, if there are just that many
 abbrev pub one_of : List (List ℕ) → Option (List ℕ)
 one_of (word ∷ []) = Some word
 one_of _ = None
@@ -35,7 +35,7 @@ abbrev pub four_of : List (List ℕ) → Option (List ℕ × List ℕ × List �
 four_of (word ∷ second ∷ third ∷ fourth ∷ []) = Some (word, second, third, fourth)
 four_of _ = None
 
--- what so many words tell, if there are just so many
+-- what n words say, if there are just that many
 abbrev pub just : {A : Type 0} → Option A → (A → Result RecLine Kind) → Result RecLine Kind
 just None tell = Err kinds.Word
 just (Some words) tell = tell words

@@ -6,7 +6,7 @@ ghost use Rattle.run_record.specs.Judging.{number_of};
 use thiserror::Error;
 
 /// Why a line of a record is refused. Of several causes on one line the first of these counts; reading alone refuses a line as
-/// Long, Word or Number, and a server that it is played to for the others.
+/// Long, Word or Number, and a server that it is applied to for the others.
 #[derive(Clone, Copy, Debug, PartialEq, Eq, Error)]
 pub enum Kind {
     /// It is longer than 140100 octets, or has an octet outside 20 to 7E.

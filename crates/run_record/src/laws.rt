@@ -22,6 +22,8 @@ pub fn lines_are_refused_as_the_format_has_them()
 
 /// What is written of a line that a text spells reads as that line, and no text that spells it is shorter.
 pub fn written_lines_read_as_the_same()
-    ensures again { (text : List ℕ) (line : RecLine) → Spells text line → line_at (spelled line) ≡ Ok line }
-    ensures shortest { (text : List ℕ) (line : RecLine) → Spells text line → length (spelled line) ≤ length text }
+    ensures again { (text : List ℕ) (line : RecLine) → Spells text line
+        → line_at (spelled line) ≡ Ok line }
+    ensures shortest { (text : List ℕ) (line : RecLine) → Spells text line
+        → length (spelled line) ≤ length text }
 {}

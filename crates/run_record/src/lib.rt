@@ -15,7 +15,7 @@ mod view;
 mod words;
 mod writing;
 
-// what a line tells
+// what a line says
 pub use line::{OpenForm, RecLine};
 pub use pairs::{Pair, Pairs};
 

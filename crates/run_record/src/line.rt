@@ -1,4 +1,4 @@
-//! What a line of a record tells.
+//! What a line of a record says.
 
 use crate::pairs::Pairs;
 use sv_base::{AssocNo, Moment, Octs};
@@ -8,13 +8,13 @@ use sv_base::{AssocNo, Moment, Octs};
 pub enum OpenForm {
     /// It writes components of blocks, and takes reports as they are.
     Direct,
-    /// It exchanges MMS PDUs (ISO 9506-2) of at most so many octets, 1024 to 65000.
+    /// It exchanges MMS PDUs (ISO 9506-2) of at most n octets, 1024 to 65000.
     Mms(u32),
     /// It sends a stream of octets, as TCP carries it (RFC 1006).
     Wire,
 }
 
-/// What a line of a record tells. An association's number is also the actor and the writer.
+/// What a line of a record says. An association's number is also the actor and the writer.
 #[derive(Debug, Drop)]
 pub enum RecLine {
     /// It is empty, or a remark.

@@ -3,12 +3,13 @@
 
 ghost use Rattle.std.specs.Prelude.{◌≡◌, ◌↔◌, ◌+◌, ◌<◌, ◌≤◌, false, length};
 ghost use Rattle.std.specs.List.{slice_range};
-ghost use Rattle.run_record.specs.Octets.{is_fault as fault, IsFaultless, is_clear as clear, has_odd_spaces};
+ghost use Rattle.run_record.specs.Octets.{is_fault as fault, IsFaultless, is_clear as clear};
+ghost use Rattle.run_record.specs.Octets.{has_odd_spaces};
 
 /// The most octets of a line.
 pub const MOST_OCTETS: usize = 140100;
 
-/// The octet at `i` stands in no line, or is a space behind a space.
+/// The octet at `i` stands in no line, or is a space after a space.
 #[inline(always)]
 fn is_fault(line: &[u8], i: usize) -> bool
     requires { (0 < i) × (i < length line.now) }
@@ -56,7 +57,7 @@ fn has_fault_by_blocks(line: &[u8]) -> bool
     has_fault_at::<16>(line, line.len() - 16)
 }
 
-/// An octet behind the first is a fault.
+/// An octet after the first is a fault.
 fn has_fault(line: &[u8]) -> bool
     ensures { (result ≡ false) ↔ IsFaultless line.now 1 (length line.now) }
 {

@@ -6,8 +6,10 @@ ghost use Rattle.text_words.specs.Words.{words_of};
 ghost use Rattle.text_words.specs.Numbers.{number_within};
 ghost use Rattle.text_words.specs.Values.{truth_at};
 ghost use Rattle.run_record.specs.declared.keyword.Keyword.TheVariants.{Open, Tick, End};
-ghost use Rattle.run_record.specs.declared.line.RecLine.TheVariants.{At, Write, Pdu, Piece, Take, Lost, Done, Block};
-ghost use Rattle.run_record.specs.Contents.{assoc_at, numbered, form_at, set_at as set_line_at, truth_line, content_at};
+ghost use Rattle.run_record.specs.declared.line.RecLine.TheVariants.{At, Write, Pdu, Piece, Take};
+ghost use Rattle.run_record.specs.declared.line.RecLine.TheVariants.{Lost, Done, Block};
+ghost use Rattle.run_record.specs.Contents.{assoc_at, numbered, form_at, set_at as set_line_at};
+ghost use Rattle.run_record.specs.Contents.{truth_line, content_at};
 ghost use Rattle.run_record.specs.Judging.{Gives, tell_at, is_long as is_long_text, line_at};
 ghost use Rattle.run_record.specs.Octets.{is_clear as is_clear_text};
 ghost use Rattle.run_record.specs.Seen.{words_left, one_of, two_of, four_of, just, seen};
@@ -44,7 +46,8 @@ fn moment(word: &[u8]) -> Option<Moment>
 }
 
 fn at_line(words: Words<'_>) -> Result<LineView<'_>, Kind>
-    ensures { seen result ≡ just (one_of (words_left words.entry)) (λ word. numbered (number_within 441763200000 4294967295999 word) At) }
+    ensures { seen result ≡ just (one_of (words_left words.entry))
+        (λ word. numbered (number_within 441763200000 4294967295999 word) At) }
 {
     let Some(word) = words.one() else {
         return Err(Kind::Word);
@@ -116,7 +119,8 @@ fn open_line(words: Words<'_>) -> Result<LineView<'_>, Kind>
 }
 
 fn component_line(words: Words<'_>) -> Result<LineView<'_>, Kind>
-    ensures { seen result ≡ just (four_of (words_left words.entry)) (λ ws. numbered (assoc_at ws.0) (λ n. Write n ws.1 ws.2 ws.3)) }
+    ensures { seen result ≡ just (four_of (words_left words.entry)) (λ ws. numbered (assoc_at ws.0)
+        (λ n. Write n ws.1 ws.2 ws.3)) }
 {
     let Some((a, block, comp, value)) = words.four() else {
         return Err(Kind::Word);
@@ -133,7 +137,8 @@ fn component_line(words: Words<'_>) -> Result<LineView<'_>, Kind>
 }
 
 fn pdu_line(words: Words<'_>) -> Result<LineView<'_>, Kind>
-    ensures { seen result ≡ just (two_of (words_left words.entry)) (λ ws. numbered (assoc_at ws.0) (λ n. Pdu n ws.1)) }
+    ensures { seen result ≡ just (two_of (words_left words.entry)) (λ ws. numbered (assoc_at ws.0)
+        (λ n. Pdu n ws.1)) }
 {
     let Some((a, hex)) = words.two() else {
         return Err(Kind::Word);
@@ -145,7 +150,8 @@ fn pdu_line(words: Words<'_>) -> Result<LineView<'_>, Kind>
 }
 
 fn piece_line(words: Words<'_>) -> Result<LineView<'_>, Kind>
-    ensures { seen result ≡ just (two_of (words_left words.entry)) (λ ws. numbered (assoc_at ws.0) (λ n. Piece n ws.1)) }
+    ensures { seen result ≡ just (two_of (words_left words.entry)) (λ ws. numbered (assoc_at ws.0)
+        (λ n. Piece n ws.1)) }
 {
     let Some((a, hex)) = words.two() else {
         return Err(Kind::Word);
@@ -157,7 +163,8 @@ fn piece_line(words: Words<'_>) -> Result<LineView<'_>, Kind>
 }
 
 fn take_line(words: Words<'_>) -> Result<LineView<'_>, Kind>
-    ensures { seen result ≡ just (one_of (words_left words.entry)) (λ word. numbered (assoc_at word) Take) }
+    ensures { seen result ≡ just (one_of (words_left words.entry))
+        (λ word. numbered (assoc_at word) Take) }
 {
     let Some(a) = words.one() else {
         return Err(Kind::Word);
@@ -169,7 +176,8 @@ fn take_line(words: Words<'_>) -> Result<LineView<'_>, Kind>
 }
 
 fn lost_line(words: Words<'_>) -> Result<LineView<'_>, Kind>
-    ensures { seen result ≡ just (one_of (words_left words.entry)) (λ word. numbered (assoc_at word) Lost) }
+    ensures { seen result ≡ just (one_of (words_left words.entry))
+        (λ word. numbered (assoc_at word) Lost) }
 {
     let Some(a) = words.one() else {
         return Err(Kind::Word);
@@ -191,7 +199,8 @@ fn set_line(words: Words<'_>) -> Result<LineView<'_>, Kind>
 }
 
 fn done_line(words: Words<'_>) -> Result<LineView<'_>, Kind>
-    ensures { seen result ≡ just (two_of (words_left words.entry)) (λ ws. truth_line (truth_at ws.1) (Done ws.0)) }
+    ensures { seen result ≡ just (two_of (words_left words.entry))
+        (λ ws. truth_line (truth_at ws.1) (Done ws.0)) }
 {
     let Some((control, well)) = words.two() else {
         return Err(Kind::Word);
@@ -203,7 +212,8 @@ fn done_line(words: Words<'_>) -> Result<LineView<'_>, Kind>
 }
 
 fn block_line(words: Words<'_>) -> Result<LineView<'_>, Kind>
-    ensures { seen result ≡ just (two_of (words_left words.entry)) (λ ws. truth_line (truth_at ws.1) (Block ws.0)) }
+    ensures { seen result ≡ just (two_of (words_left words.entry))
+        (λ ws. truth_line (truth_at ws.1) (Block ws.0)) }
 {
     let Some((control, on)) = words.two() else {
         return Err(Kind::Word);
@@ -236,7 +246,7 @@ fn end_line(words: Words<'_>) -> Result<LineView<'_>, Kind>
     }
 }
 
-/// What the words behind the first tell.
+/// What the words after the first say.
 #[tactic(auto, using(crate::proofs::SeenLaws::at_content, crate::proofs::SeenLaws::write_content, crate::proofs::SeenLaws::pdu_content, crate::proofs::SeenLaws::piece_content, crate::proofs::SeenLaws::take_content, crate::proofs::SeenLaws::lost_content, crate::proofs::SeenLaws::set_content, crate::proofs::SeenLaws::done_content, crate::proofs::SeenLaws::block_content))]
 fn content<'a>(keyword: Keyword, words: Words<'a>) -> Result<LineView<'a>, Kind>
     ensures { seen result ≡ content_at keyword (words_left words.entry) }
@@ -257,7 +267,7 @@ fn content<'a>(keyword: Keyword, words: Words<'a>) -> Result<LineView<'a>, Kind>
     }
 }
 
-/// What words tell of which none is empty.
+/// What words say of which none is empty.
 #[tactic(auto, unfolding(crate::specs::Judging::tell_at))]
 fn tell(line: &[u8]) -> Result<LineView<'_>, Kind>
     requires { list_any (λ w. length w == 0) (words_of line.now) ≡ false }
@@ -280,7 +290,7 @@ pub fn is_long(line: &[u8]) -> bool
     line.len() > MOST_OCTETS || !are_printable(line)
 }
 
-/// What a line tells that is too long, has an octet that no line has, or has an empty word.
+/// What a line says that is too long, has an octet that no line has, or has an empty word.
 #[tactic(auto, unfolding(crate::specs::Judging::line_at))]
 fn unclear(line: &[u8]) -> Result<LineView<'_>, Kind>
     requires { is_clear_text line.now ≡ false }
@@ -295,7 +305,7 @@ fn unclear(line: &[u8]) -> Result<LineView<'_>, Kind>
     }
 }
 
-/// What a line of a record tells, without its newline, its words lent. It takes no memory.
+/// What a line of a record says, without its newline, its words lent. It takes no memory.
 ///
 /// Fails as `read_line` does.
 #[tactic(auto, unfolding(crate::specs::Judging::line_at))]
@@ -311,7 +321,7 @@ pub fn view_line(line: &[u8]) -> Result<LineView<'_>, Kind>
     tell(line)
 }
 
-/// What a line tells, with words of its own.
+/// What a line says, with words of its own.
 fn judge(alloc: Global, line: &[u8]) -> Result<RecLine, RecFault>
     ensures { Gives result (line_at line.now) }
 {
@@ -321,12 +331,12 @@ fn judge(alloc: Global, line: &[u8]) -> Result<RecLine, RecFault>
     }
 }
 
-/// What a line of a record tells, without its newline. The line `record` and those of the configuration are no such lines.
+/// What a line of a record says, without its newline. The line `record` and those of the configuration are no such lines.
 ///
 /// Fails with the first of these: Long for more than 140100 octets, or an octet outside 20 to 7E; Word for another first
 /// word or count of words, an empty word, or a word that is no form of an association, or neither `T` nor `F`; Number for an
 /// association that isn't 1 to 16, a moment out of its range, a size that isn't 1024 to 65000, or another spelling than
-/// decimal without leading zeros. `Memory` is want of memory.
+/// decimal without leading zeros. `Memory` is out of memory.
 pub fn read_line(alloc: Global, line: &[u8]) -> Result<RecLine, RecFault>
     ensures told { Gives result (line_at line.now) }
     ensures format { Answers line.now result }

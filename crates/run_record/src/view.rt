@@ -1,4 +1,4 @@
-//! What a line tells, with its words lent.
+//! What a line says, with its words lent.
 
 ghost use Rattle.std.specs.Prelude.{◌≡◌, IfOk};
 ghost use Rattle.run_record.specs.declared.line.RecLine.TheVariants.{Write};
@@ -22,7 +22,7 @@ pub struct PairsView<'a> {
     words: Words<'a>,
 }
 
-/// What a line of a record tells, as `RecLine` does, with its words lent by the line's text.
+/// What a line of a record says, as `RecLine` does, with its words lent by the line's text.
 #[derive(Clone, Copy, Debug)]
 pub enum LineView<'a> {
     Skip,
@@ -62,7 +62,8 @@ impl<'a> PairsView<'a> {
 
     /// Takes the next pair; none exactly where no pair is left.
     pub fn next(&mut self) -> Option<PairView<'a>>
-        ensures pair { MatchOption result (pairs_seen self.old ≡ []) (λ pair. pairs_seen self.old ≡ pair_seen pair ∷ pairs_seen self.new) }
+        ensures pair { MatchOption result (pairs_seen self.old ≡ []) (λ pair. pairs_seen self.old
+            ≡ pair_seen pair ∷ pairs_seen self.new) }
         ensures none { IfNone result (pairs_seen self.new ≡ []) }
     {
         let name = self.words.next()?;

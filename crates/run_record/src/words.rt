@@ -20,7 +20,8 @@ fn first_space(octets: &[u8]) -> Option<usize>
 
 /// The octets before the first space, and those after it.
 fn split_word(octets: &[u8]) -> Option<(&[u8], &[u8])>
-    ensures cut { MatchOption result (All (λ b. (b == 32) ≡ false) octets.now) (λ r. (octets.now ≡ r.0.now ++ 32 ∷ r.1.now)
+    ensures cut { MatchOption result (All (λ b. (b == 32) ≡ false) octets.now)
+        (λ r. (octets.now ≡ r.0.now ++ 32 ∷ r.1.now)
         × All (λ b. (b == 32) ≡ false) r.0.now) }
 {
     let at = first_space(octets)?;
@@ -34,7 +35,8 @@ pub struct Words<'a> {
 }
 
 impl<'a> Words<'a> {
-    ghost use Rattle.std.specs.Prelude.{◌≡◌, ◌∷◌, ◌==◌, ◌&&◌, ◌%◌, nat_lt, length, [], option_map, MatchOption, IfNone};
+    ghost use Rattle.std.specs.Prelude.{◌≡◌, ◌∷◌, ◌==◌, ◌&&◌, ◌%◌, nat_lt, length, [], option_map};
+    ghost use Rattle.std.specs.Prelude.{MatchOption, IfNone};
     ghost use Rattle.text_words.specs.Words.{words_of};
     ghost use Rattle.run_record.specs.Seen.{words_left, one_of, two_of, four_of};
 
@@ -47,7 +49,8 @@ impl<'a> Words<'a> {
 
     /// Takes the next word; none exactly where no word is left.
     pub fn next(&mut self) -> Option<&'a [u8]>
-        ensures word { MatchOption result (words_left self.old ≡ []) (λ word. words_left self.old ≡ word.now ∷ words_left self.new) }
+        ensures word { MatchOption result (words_left self.old ≡ []) (λ word. words_left self.old
+            ≡ word.now ∷ words_left self.new) }
         ensures none { IfNone result (words_left self.new ≡ []) }
     {
         let text = self.rest?;
@@ -72,7 +75,8 @@ impl<'a> Words<'a> {
 
     /// The words that are left are some, and go by twos.
     pub fn are_pairs(&self) -> bool
-        ensures { result ≡ (nat_lt 0 (length (words_left self.now)) && (length (words_left self.now) % 2 == 0)) }
+        ensures { result ≡ (nat_lt 0 (length (words_left self.now))
+            && (length (words_left self.now) % 2 == 0)) }
     {
         match self.rest {
             Some(text) => are_odd(text),
@@ -91,7 +95,8 @@ impl<'a> Words<'a> {
 
     /// The words, if they are two.
     pub fn two(self) -> Option<(&'a [u8], &'a [u8])>
-        ensures { option_map (λ words. (words.0.now, words.1.now)) result ≡ two_of (words_left self.entry) }
+        ensures { option_map (λ words. (words.0.now, words.1.now)) result ≡ two_of
+            (words_left self.entry) }
     {
         let mut words = self;
         let word = words.next()?;
@@ -103,7 +108,8 @@ impl<'a> Words<'a> {
 
     /// The words, if they are four.
     pub fn four(self) -> Option<(&'a [u8], &'a [u8], &'a [u8], &'a [u8])>
-        ensures { option_map (λ words. (words.0.now, words.1.now, words.2.now, words.3.now)) result ≡ four_of (words_left self.entry) }
+        ensures { option_map (λ words. (words.0.now, words.1.now, words.2.now, words.3.now)) result
+            ≡ four_of (words_left self.entry) }
     {
         let mut words = self;
         let first = words.next()?;

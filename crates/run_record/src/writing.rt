@@ -14,14 +14,15 @@ use text_words::{push_number, push_word};
 
 /// Adds a first word and the number of an association.
 fn push_association(out: &mut Vec<u8>, keyword: &[u8], a: AssocNo) -> Result<(), AllocError>
-    ensures ok { OnOk result (out.new.items ≡ out.old.items ++ (keyword.now ++ spaced (decimal a.0))) }
+    ensures ok { OnOk result (out.new.items ≡ out.old.items
+        ++ (keyword.now ++ spaced (decimal a.0))) }
     ensures err { OnErr result (take (length out.old.items) out.new.items ≡ out.old.items) }
 {
     out.extend_from_slice(keyword)?;
     push_number(out, u64::from(a.0))
 }
 
-/// Adds the words of a form, each behind a space.
+/// Adds the words of a form, each after a space.
 fn push_form(out: &mut Vec<u8>, form: OpenForm) -> Result<(), AllocError>
     ensures ok { OnOk result (out.new.items ≡ out.old.items ++ flat_map spaced (form_words form)) }
     ensures err { OnErr result (take (length out.old.items) out.new.items ≡ out.old.items) }
@@ -36,9 +37,10 @@ fn push_form(out: &mut Vec<u8>, form: OpenForm) -> Result<(), AllocError>
     }
 }
 
-/// Adds the words of a pair, each behind a space.
+/// Adds the words of a pair, each after a space.
 fn push_pair(out: &mut Vec<u8>, pair: &Pair) -> Result<(), AllocError>
-    ensures ok { OnOk result (out.new.items ≡ out.old.items ++ flat_map spaced (pair_words pair.now)) }
+    ensures ok { OnOk result (out.new.items ≡ out.old.items ++ flat_map spaced
+        (pair_words pair.now)) }
     ensures err { OnErr result (take (length out.old.items) out.new.items ≡ out.old.items) }
 {
     push_word(out, pair.name.as_slice())?;
@@ -46,7 +48,8 @@ fn push_pair(out: &mut Vec<u8>, pair: &Pair) -> Result<(), AllocError>
 }
 
 fn push_pairs(out: &mut Vec<u8>, pairs: &[Pair]) -> Result<(), AllocError>
-    ensures ok { OnOk result (out.new.items ≡ out.old.items ++ flat_map spaced (flat_map pair_words pairs.now)) }
+    ensures ok { OnOk result (out.new.items ≡ out.old.items ++ flat_map spaced
+        (flat_map pair_words pairs.now)) }
     ensures err { OnErr result (take (length out.old.items) out.new.items ≡ out.old.items) }
 {
     for pair in pairs {
@@ -55,7 +58,7 @@ fn push_pairs(out: &mut Vec<u8>, pairs: &[Pair]) -> Result<(), AllocError>
     Ok(())
 }
 
-/// Adds `T` or `F` behind a space.
+/// Adds `T` or `F` after a space.
 fn push_truth(out: &mut Vec<u8>, truth: bool) -> Result<(), AllocError>
     ensures ok { OnOk result (out.new.items ≡ out.old.items ++ spaced (truth_word truth)) }
     ensures err { OnErr result (take (length out.old.items) out.new.items ≡ out.old.items) }
@@ -66,7 +69,8 @@ fn push_truth(out: &mut Vec<u8>, truth: bool) -> Result<(), AllocError>
 /// Adds `at` and its moment.
 #[tactic(auto, using(crate::proofs::WordLaws::joined))]
 fn push_moment(out: &mut Vec<u8>, moment: Moment) -> Result<(), AllocError>
-    ensures ok { OnOk result (out.new.items ≡ out.old.items ++ join_with_byte 32 (codes "at" ∷ decimal moment ∷ [])) }
+    ensures ok { OnOk result (out.new.items ≡ out.old.items ++ join_with_byte 32
+        (codes "at" ∷ decimal moment ∷ [])) }
     ensures err { OnErr result (take (length out.old.items) out.new.items ≡ out.old.items) }
 {
     out.extend_from_slice(b"at")?;
@@ -76,21 +80,23 @@ fn push_moment(out: &mut Vec<u8>, moment: Moment) -> Result<(), AllocError>
 /// Adds `open`, the association and its form.
 #[tactic(auto, using(crate::proofs::WordLaws::joined))]
 fn push_open(out: &mut Vec<u8>, a: AssocNo, form: OpenForm) -> Result<(), AllocError>
-    ensures ok { OnOk result (out.new.items ≡ out.old.items ++ join_with_byte 32 (codes "open" ∷ decimal a.0 ∷ form_words form)) }
+    ensures ok { OnOk result (out.new.items ≡ out.old.items ++ join_with_byte 32
+        (codes "open" ∷ decimal a.0 ∷ form_words form)) }
     ensures err { OnErr result (take (length out.old.items) out.new.items ≡ out.old.items) }
 {
     push_association(out, b"open", a)?;
     push_form(out, form)
 }
 
-/// Adds three words, each behind a space.
+/// Adds three words, each after a space.
 fn push_three(
     out: &mut Vec<u8>,
     first: &[u8],
     second: &[u8],
     third: &[u8],
 ) -> Result<(), AllocError>
-    ensures ok { OnOk result (out.new.items ≡ out.old.items ++ (spaced first.now ++ spaced second.now ++ spaced third.now)) }
+    ensures ok { OnOk result (out.new.items ≡ out.old.items
+        ++ (spaced first.now ++ spaced second.now ++ spaced third.now)) }
     ensures err { OnErr result (take (length out.old.items) out.new.items ≡ out.old.items) }
 {
     push_word(out, first)?;
@@ -107,7 +113,8 @@ fn push_write(
     value: &[u8],
 ) -> Result<(), AllocError>
     ensures ok { OnOk result (out.new.items ≡ out.old.items ++
-        (codes "write" ++ spaced (decimal a.0) ++ spaced block.now ++ spaced comp.now ++ spaced value.now)) }
+        (codes "write" ++ spaced (decimal a.0) ++ spaced block.now ++ spaced comp.now
+        ++ spaced value.now)) }
     ensures err { OnErr result (take (length out.old.items) out.new.items ≡ out.old.items) }
 {
     push_association(out, b"write", a)?;
@@ -117,7 +124,8 @@ fn push_write(
 /// Adds a first word, the number of an association and the octets that came on it.
 #[tactic(auto, using(crate::proofs::WordLaws::joined))]
 fn push_octets(out: &mut Vec<u8>, keyword: &[u8], a: AssocNo, hex: &[u8]) -> Result<(), AllocError>
-    ensures ok { OnOk result (out.new.items ≡ out.old.items ++ join_with_byte 32 (keyword.now ∷ decimal a.0 ∷ hex.now ∷ [])) }
+    ensures ok { OnOk result (out.new.items ≡ out.old.items ++ join_with_byte 32
+        (keyword.now ∷ decimal a.0 ∷ hex.now ∷ [])) }
     ensures err { OnErr result (take (length out.old.items) out.new.items ≡ out.old.items) }
 {
     push_association(out, keyword, a)?;
@@ -127,7 +135,8 @@ fn push_octets(out: &mut Vec<u8>, keyword: &[u8], a: AssocNo, hex: &[u8]) -> Res
 /// Adds `set` and its pairs.
 #[tactic(auto, using(crate::proofs::WordLaws::pushed))]
 fn push_set(out: &mut Vec<u8>, pairs: &[Pair]) -> Result<(), AllocError>
-    ensures ok { OnOk result (out.new.items ≡ out.old.items ++ join_with_byte 32 (codes "set" ∷ flat_map pair_words pairs.now)) }
+    ensures ok { OnOk result (out.new.items ≡ out.old.items ++ join_with_byte 32
+        (codes "set" ∷ flat_map pair_words pairs.now)) }
     ensures err { OnErr result (take (length out.old.items) out.new.items ≡ out.old.items) }
 {
     out.extend_from_slice(b"set")?;
@@ -141,7 +150,8 @@ fn push_control(
     control: &[u8],
     truth: bool,
 ) -> Result<(), AllocError>
-    ensures ok { OnOk result (out.new.items ≡ out.old.items ++ (keyword.now ++ spaced control.now ++ spaced (truth_word truth))) }
+    ensures ok { OnOk result (out.new.items ≡ out.old.items ++ (keyword.now ++ spaced control.now
+        ++ spaced (truth_word truth))) }
     ensures err { OnErr result (take (length out.old.items) out.new.items ≡ out.old.items) }
 {
     out.extend_from_slice(keyword)?;
@@ -187,9 +197,9 @@ fn push_line(out: &mut Vec<u8>, line: &RecLine) -> Result<(), AllocError>
     Ok(())
 }
 
-/// Adds the text of a line and its newline. A line that tells nothing is written as an empty one.
+/// Adds the text of a line and its newline. A line that says nothing is written as an empty one.
 ///
-/// Of a line that a text spells the written text reads as that line, and none that spells it is shorter. Fails for want of
+/// Of a line that a text spells the written text reads as that line, and none that spells it is shorter. Fails out of
 /// memory alone, and then `out` stays as it was.
 pub fn write_line(line: &RecLine, out: &mut Vec<u8>) -> Result<(), AllocError>
     ensures ok { OnOk result (out.new.items ≡ out.old.items ++ line_text line.now) }

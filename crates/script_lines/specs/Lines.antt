@@ -1,4 +1,4 @@
--- How a line among scripts is spelled, and what it tells.
+-- How a line among scripts is spelled, and what it says.
 use Rattle.std.specs.Prelude.{ℕ, Bool, List, [], ◌∷◌, ◌++◌, codes, Option, None, Some, Result, Ok, Err, if◌then◌else◌}
 use Rattle.std.specs.Fmt.{decimal}
 use Rattle.std.specs.Str.{bytes_eq}
@@ -57,12 +57,12 @@ mark_at text =
     else if bytes_eq text (codes "close") then Ok scripts.Closes
     else associated (behind (codes "script association ") text)
 
--- what a text tells that is no line of a record for this cause
+-- what a text says that is no line of a record for this cause
 abbrev pub beside : List ℕ → Result RecLine Kind → Result ScriptLine Kind
 beside text (Ok line) = Ok (scripts.Step line)
 beside text (Err kinds.Word) = mark_at text
 beside text (Err kind) = Err kind
 
--- what a line tells, or the first cause for which it is refused
+-- what a line says, or the first cause for which it is refused
 unfoldable pub script_line_at : List ℕ → Result ScriptLine Kind
 script_line_at text = beside text (line_at text)

@@ -13,7 +13,7 @@ mod writing;
 // whose a script is, and which lines it may have
 pub use party::Party;
 
-// what a line tells
+// what a line says
 pub use line::{ScriptLine, ScriptView};
 pub use reading::{is_heading, view_script_line};
 pub use writing::write_script_line;

@@ -1,9 +1,9 @@
-//! What a line among scripts tells.
+//! What a line among scripts says.
 
 use crate::party::Party;
 use run_record::{LineView, RecLine};
 
-/// What a line among scripts tells.
+/// What a line among scripts says.
 #[derive(Debug, Drop)]
 pub enum ScriptLine {
     /// A script begins.

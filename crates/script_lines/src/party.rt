@@ -18,7 +18,7 @@ impl Party {
     ghost use Rattle.script_lines.specs.Parties.{may_have};
 
     /// Whether a script of this party may have the line: of an association its own `open` (but for a stream), `write`, `pdu`, `take`
-    /// and `lost`, of the process `set`, `done`, `block` and `tick`; of either `at`, and lines that tell nothing.
+    /// and `lost`, of the process `set`, `done`, `block` and `tick`; of either `at`, and lines that say nothing.
     pub fn may_have(&self, line: &LineView<'_>) -> bool
         ensures { result ≡ may_have self.now (line_seen line.now) }
     {

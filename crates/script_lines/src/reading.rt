@@ -45,7 +45,7 @@ fn mark(line: &[u8]) -> Result<ScriptView<'_>, Kind>
     }
 }
 
-/// What a line among scripts tells, without its newline, its words lent. It takes no memory.
+/// What a line among scripts says, without its newline, its words lent. It takes no memory.
 ///
 /// Fails as `view_line` does; and with Number for a script of an association that isn't 1 to 16.
 #[tactic(auto, unfolding(crate::specs::Lines::script_line_at))]

@@ -39,7 +39,7 @@ fn push_line(out: &mut Vec<u8>, line: &ScriptLine) -> Result<(), AllocError>
     }
 }
 
-/// Adds the text of a line and its newline. Fails for want of memory alone, and then `out` stays as it was.
+/// Adds the text of a line and its newline. Fails only when out of memory, and then `out` stays as it was.
 pub fn write_script_line(line: &ScriptLine, out: &mut Vec<u8>) -> Result<(), AllocError>
     ensures ok { OnOk result (out.new.items ≡ out.old.items ++ script_line_text line.now) }
     ensures err { OnErr result (out.new.items ≡ out.old.items) }

@@ -51,7 +51,7 @@ use Rattle.script_plans.proofs.LineLaws.{line-first}
 use Rattle.script_plans.proofs.SoundLaws.{pieces-clean, Good, GoodMove, lines-good, below}
 use Rattle.script_plans.proofs.WholeLaws.{passed-own, IsQuiet, stays, later, later-none, later-more, lines-behind, comes}
 
--- ---- what is left of an input, behind so many lines, where it comes to a plan
+-- ---- what is left of an input, after n lines, where it comes to a plan
 
 -- between scripts
 pub record LeftItems (n : ℕ) (p q : Plan) (ps : List (List ℕ)) : Type 0 where
@@ -107,7 +107,7 @@ Left n (configuring before text) q ps = LeftConfig n text q ps
 Left n (between p) q ps = LeftItems n p q ps
 Left n (inside p o) q ps = LeftLines n p o q ps
 
--- behind a line that does this
+-- after a line that does this
 abbrev LeftMove : ℕ → Move → Plan → List (List ℕ) → Type 0
 LeftMove n (goes to) q rest = Left (suc n) to q rest
 LeftMove n (stops status) q rest = ⊥

@@ -1,4 +1,4 @@
--- Every plan that an input comes to is sound: what holds of where the reading is holds behind each line.
+-- Every plan that an input comes to is sound: what holds of where the reading is holds after each line.
 use Rattle.std.proofs.Common.{◌≡◌, ◌≢◌, ◌≤◌, ◌<◌, ◌+◌, ◌==◌, ◌&&◌, ◌||◌, ℕ, zero, suc, Bool, true, false, cond, not, List, [], ◌∷◌, ◌++◌, length, take, map, set, replicate, get_or, refl, sym, ap, subst, ◌∙◌, arith, inl, inr, ◌⊎◌, length-append, length-set, append-nil}
 use Rattle.std.specs.Prelude.{Option, None, Some, is_some, Result, Ok, Err, codes, nat_lt, if◌then◌else◌}
 use Rattle.std.specs.Str.{bytes_eq}
@@ -106,7 +106,7 @@ none-there zero k = refl
 none-there (suc n) zero = refl
 none-there (suc n) (suc k) = none-there n k
 
--- ---- what holds behind so many lines
+-- ---- what holds after n lines
 
 pub record GoodScript (n : ℕ) (c : Config) (k : ℕ) (s : Script) : Type 0 where
   pub some : 0 < k
@@ -135,7 +135,7 @@ pub record GoodOpened (n : ℕ) (c : Config) (o : Opened) : Type 0 where
   pub late : o.moment ≤ 4294967295999
   pub fit : IsFit o.form
 
--- its place is behind those of all scripts before it
+-- its place is after those of all scripts before it
 abbrev pub IsSeated : Plan → Opened → Type 0
 IsSeated p o = (o.script.place < p.count) × ((k : ℕ) → IsPlacedBelow o.script.place (script_of p k))
 
@@ -309,7 +309,7 @@ actor-told c form k w parties.Process line step before is may says =
     let made = process-made c (form_in form) w step line may says in
     says ∙ ap (λ n. turn n step) (made.1.0 ∙ sym (made.1.1 k))
 
--- the association behind the line
+-- the association after the line
 actor-behind : (c : Config) (form : ScriptForm) (k w : ℕ) (party : Party) (text : List ℕ) (line : RecLine) (step : Step) (before : List (List ℕ)) → IsActor k party before form → may_have party line ≡ true → judging.line_at text ≡ Ok line
     → told_of c (form_in form) line ≡ turn w step → IsActor k party (text ∷ before) (form_passed line form)
 actor-behind c form k w (parties.Association a) text line step before is may reads says =

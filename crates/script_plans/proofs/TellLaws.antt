@@ -1,4 +1,4 @@
--- What the lines of scripts tell: whose a step is, and what a line makes of the associations.
+-- What the lines of scripts say: whose a step is, and what a line makes of the associations.
 use Rattle.std.proofs.Common.{◌≡◌, ◌==◌, ◌&&◌, ℕ, Bool, true, false, List, refl, sym, ap, subst, ◌∙◌}
 use Rattle.std.specs.Prelude.{Option, None, Some, if◌then◌else◌}
 use Rattle.std.proofs.lemmas.Bool.{eqb-true}
@@ -119,7 +119,7 @@ module _ (c : Config) (form : Form) (actor : ℕ) (step : Step) where
   block-made None on h = absurd cc
   block-made (Some k) on h = made c 0 actor (steps.Block (record { 0 = k }) on) step (Keeps zero_of 0) h (refl, λ k. refl)
 
-  -- a step that a line of an association tells
+  -- a step that a line of an association says
   pub association-made : (own : AssocNo) (line : RecLine) → is_of own line ≡ true → told_of c form line ≡ turn actor step → (association_of line ≡ own.0) × Keeps same own.0 actor step
   unfolding told_of
   association-made own lines.Skip may h = absurd cc
@@ -141,7 +141,7 @@ module _ (c : Config) (form : Form) (actor : ℕ) (step : Step) where
   association-made own lines.Tick may h = absurd cc
   association-made own lines.End may h = absurd cc
 
-  -- and one that a line of the process tells
+  -- and one that a line of the process says
   pub process-made : (line : RecLine) → is_of_process line ≡ true → told_of c form line ≡ turn actor step → (association_of line ≡ 0) × Keeps zero_of 0 actor step
   unfolding told_of
   process-made lines.Skip may h = absurd cc
@@ -341,7 +341,7 @@ block-none c (Some k) on = turn-none c 0 (steps.Block (record { 0 = k }) on)
 not-told : (t : Told) (moment : ℕ) (P : Type 0) → NoMoment t → t ≡ pass_to moment → P
 not-told t moment P none is = absurd (subst NoMoment is none)
 
--- an `at` line alone tells one
+-- an `at` line alone says one
 pub passed-at : (c : Config) (form : Form) (line : RecLine) (moment : ℕ) → told_of c form line ≡ pass_to moment → line ≡ lines.At moment
 unfolding told_of
 passed-at c form lines.Skip moment h = absurd cc

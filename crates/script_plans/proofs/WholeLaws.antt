@@ -53,7 +53,7 @@ use Rattle.script_plans.proofs.TellLaws.{passed-in, process-stays, process-passe
 use Rattle.record_outcome.specs.declared.status.Status.TheVariants as statuses
 use Rattle.list_laws.proofs.Appended.{take-front}
 
--- ---- the association of a script behind a line
+-- ---- the association of a script after a line
 
 -- what a line makes of it
 pub passed-own : (party : Party) (line : RecLine) (was : ScriptForm) → may_have party line ≡ true → form_in (form_passed line was) ≡ form_behind (association_in party) line (form_in was)
@@ -111,7 +111,7 @@ quiet-passed c (parties.Association own) (lines.Lost a) form may quiet = absurd 
 quiet-passed c parties.Process line form may quiet = process-passed line form may
 quiet-passed c (parties.Association own) _ form may quiet = refl
 
--- a line that tells no step leaves it as it was
+-- a line that gives no step leaves it as it was
 pub stays : (c : Config) (party : Party) (line : RecLine) (form : ScriptForm) → may_have party line ≡ true → IsQuiet (told_of c (form_in form) line) → form_behind (association_in party) line (form_in form) ≡ form_in form
 stays c party line form may quiet = sym (passed-own party line form may) ∙ ap form_in (quiet-passed c party line form may quiet)
 
@@ -126,7 +126,7 @@ form-one forms.Direct (forms.Mms m) is = absurd cc
 form-one (forms.Mms n) forms.Shut is = absurd cc
 form-one (forms.Mms n) forms.Direct is = absurd cc
 
--- ---- a script behind further lines
+-- ---- a script after further lines
 
 abbrev pub later : Script → List StepLine → List TimedStep → Script
 later s ls ss = record { place = s.place; lines = s.lines ++ ls; steps = s.steps ++ ss }
@@ -303,7 +303,7 @@ module _ (long : Bool) where
       (o, ap (λ n. run long n (inside p o) ps) same, refl, sym (ap (λ ls. later o.script ls ss) are.0 ∙ (ap (later o.script []) are.1 ∙ later-none o.script)))
   lines-go (text ∷ more) count p o ls ss ps some are low = line-go text more (lines-go more) count p o ls ss ps some are low
 
-  -- what stands behind the configuration
+  -- what stands after the configuration
   items-go : (items : List Item) (count : ℕ) (p q : Plan) (ps : List (List ℕ)) → 0 < length ps → AreItems count p items q → count + length (lines_of items ps) ≤ most_lines + length ps
       → (behind : ℕ) × (behind + length ps ≡ count + length (lines_of items ps)) × (run long count (between p) (lines_of items ps) ≡ run long behind (between q) ps)
   items-go [] count p q ps some are low = (count, refl, ap (λ p. run long count (between p) ps) are)
@@ -361,7 +361,7 @@ inner-clean : (ls more : List (List ℕ)) → Each IsInner ls → Each NoNewline
 inner-clean [] more are clean = clean
 inner-clean (l ∷ ls) more are clean = (are.0.0, inner-clean ls more are.1 clean)
 
--- the lines behind one
+-- the lines after one
 tells-on : (P : Type 0) (n : ℕ) (text : List ℕ) (form : Form) (moment : ℕ) (t : Told) (behind : ℕ → List StepLine → List TimedStep → Type 0) (ls : List StepLine) (ss : List TimedStep) → Tells n text form moment t behind ls ss
     → ((to : ℕ) (ls : List StepLine) (ss : List TimedStep) → behind to ls ss → P) → P
 tells-on P n text form moment skip behind ls ss tells on = on moment ls ss tells

@@ -1,4 +1,4 @@
--- What the association of a script is, as of a record, and behind a line of its script.
+-- What the association of a script is, as of a record, and after a line of its script.
 use Rattle.stream_lines.specs.Shapes.{IsShape}
 use Rattle.record_steps.specs.Forms.{Form, shut, direct, mms, shape_of}
 use Rattle.run_record.specs.declared.line.OpenForm.{OpenForm}

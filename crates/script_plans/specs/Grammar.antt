@@ -1,5 +1,5 @@
 -- What a whole input of a rehearsal is: empty lines and remarks, the line `rehearse 1`, a configuration up to its `end`, 1 to 16 scripts, with
--- empty lines and remarks before, between and behind them, and `end`. What follows is disregarded.
+-- empty lines and remarks before, between and after them, and `end`. What follows is disregarded.
 use Rattle.std.specs.Prelude.{◌≡◌, ◌≤◌, ◌<◌, ◌+◌, ℕ, suc, true, List, [], ◌∷◌, ◌++◌, length, codes, None}
 use Rattle.sv_base.specs.declared.config.Config.{Config}
 use Rattle.bay_model.specs.Points.{least_moment}
@@ -38,8 +38,8 @@ abbrev pub association_in : Party → ℕ
 association_in (parties.Association a) = a.0
 association_in parties.Process = 0
 
--- What a line tells that stands behind so many lines of the input, where its association is of this form and the newest `at` line of its script
--- has this moment, and what the lines behind it tell: nothing, or another moment, or a step. The line of a step is there with its number, its
+-- What a line says that stands after n lines of the input, where its association is of this form and the newest `at` line of its script
+-- has this moment, and what the lines after it say: nothing, or another moment, or a step. The line of a step is there with its number, its
 -- text, what its association is before it, and its moment; and the step with that moment.
 abbrev pub Tells : ℕ → List ℕ → Form → ℕ → Told → (ℕ → List StepLine → List TimedStep → Type 0) → List StepLine → List TimedStep → Type 0
 Tells n text form moment skip behind ls ss = behind moment ls ss
@@ -48,14 +48,14 @@ Tells n text form moment (turn actor step) behind (l ∷ ls) (s ∷ ss) =
     (kept : ScriptForm) × (form_in kept ≡ form) × (l ≡ record { number = suc n; text = text; form = kept; moment = moment }) × (s ≡ record { moment = moment; step = step }) × behind moment ls ss
 Tells n text form moment _ behind ls ss = ⊥
 
--- Lines of a script, each told as in a record that has the lines of this script alone: these are the lines that tell steps, with their steps, and
+-- Lines of a script, each told as in a record that has the lines of this script alone: these are the lines that say steps, with their steps, and
 -- there is no other.
 abbrev pub AreLines : Config → Party → ℕ → Form → ℕ → List (List ℕ) → List StepLine → List TimedStep → Type 0
 AreLines c party n form moment [] ls ss = (ls ≡ []) × (ss ≡ [])
 AreLines c party n form moment (text ∷ more) ls ss =
     (line : RecLine) × IsLineOf party text line × Tells n text form moment (told_of c form line) (λ to ls ss. AreLines c party (suc n) (form_behind (association_in party) line form) to more ls ss) ls ss
 
--- A script behind so many lines of the input and behind the scripts of a plan, which are fewer than 16; an association has one. Its association
+-- A script after n lines of the input and after the scripts of a plan, which are fewer than 16; an association has one. Its association
 -- isn't open before its lines, and its moment is the least.
 pub record IsScriptIn (n : ℕ) (p : Plan) (party : Party) (inner : List (List ℕ)) (s : Script) : Type 0 where
   pub party_ : IsParty party
@@ -64,7 +64,7 @@ pub record IsScriptIn (n : ℕ) (p : Plan) (party : Party) (inner : List (List �
   pub place : s.place ≡ p.count
   pub told : AreLines p.config party (suc n) shut least_moment inner s.lines s.steps
 
--- ---- what stands behind the configuration
+-- ---- what stands after the configuration
 
 -- an empty line or a remark, or a script with its lines up to `close`
 pub data Item : Type 0 where
@@ -77,7 +77,7 @@ lines_of [] more = more
 lines_of (remark text ∷ items) more = text ∷ lines_of items more
 lines_of (scripted party inner ∷ items) more = party_text party ∷ (inner ++ (codes "close" ∷ lines_of items more))
 
--- behind so many lines of the input they make of one plan the other: each script is that of its actor
+-- after n lines of the input they make of one plan the other: each script is that of its actor
 abbrev pub AreItems : ℕ → Plan → List Item → Plan → Type 0
 AreItems n p [] q = p ≡ q
 AreItems n p (remark text ∷ items) q = IsRemark text × AreItems (suc n) p items q
@@ -85,7 +85,7 @@ AreItems n p (scripted party inner ∷ items) q = (s : Script) × IsScriptIn n p
 
 -- ---- the input
 
--- remarks, the inner lines of a configuration, what stands behind it, and what follows the last line
+-- remarks, the inner lines of a configuration, what stands after it, and what follows the last line
 abbrev pub rehearsal_lines : List (List ℕ) → List (List ℕ) → List Item → List (List ℕ) → List (List ℕ)
 rehearsal_lines remarks inner items more = remarks ++ (codes "rehearse 1" ∷ (inner ++ (codes "end" ∷ lines_of items (codes "end" ∷ more))))
 

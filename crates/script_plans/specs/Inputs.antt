@@ -19,7 +19,7 @@ abbrev pub missing : ℕ → Place → Status
 missing number (configuring before text) = refused_before number before (statuses.Config number 2) (config_at text)
 missing number place = statuses.Record number 7
 
--- Behind the last newline: where the line with this number has begun and is one too many, the input passes the limit of lines; else
+-- After the last newline: where the line with this number has begun and is one too many, the input passes the limit of lines; else
 -- the line isn't there.
 unfoldable pub unended : Bool → ℕ → Place → Status
 unended begun number place = if begun && nat_lt most_lines number then passed 1 number place else missing number place
@@ -43,13 +43,13 @@ pub data Outcome : Type 0 where
   refused : Status → Outcome
   ready : Plan → Outcome
 
--- what a line does, and what follows it; what stands behind the last line is disregarded
+-- what a line does, and what follows it; what stands after the last line is disregarded
 abbrev pub moved : Move → (Place → Outcome) → Outcome
 moved (goes to) on = on to
 moved (stops status) on = refused status
 moved (ends p) on = ready p
 
--- behind so many lines; whether the input passes the limit of octets counts only where no line is left
+-- after n lines; whether the input passes the limit of octets counts only where no line is left
 abbrev pub run : Bool → ℕ → Place → List (List ℕ) → Outcome
 run long count place [] = refused (ended long false (suc count) place)
 run long count place (rest ∷ []) = refused (ended long (has_begun rest) (suc count) place)

@@ -4,7 +4,7 @@ use Rattle.record_outcome.specs.declared.status.Status.{Status}
 use Rattle.script_plans.specs.Plans.{Plan}
 use Rattle.script_plans.specs.declared.opened.Opened.{Opened}
 
--- Before the line `rehearse 1`; among the lines of the configuration, whose octets so far these are, behind so many lines; between
+-- Before the line `rehearse 1`; among the lines of the configuration, whose octets so far these are, after n lines; between
 -- scripts; or in a script that has begun.
 pub data Place : Type 0 where
   opening : Place

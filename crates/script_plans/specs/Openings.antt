@@ -27,7 +27,7 @@ opening_at number line =
     else if is_skipped line then goes opening
     else headed number (words_of line)
 
--- the configuration of this text is whole, behind so many lines
+-- the configuration of this text is whole, after n lines
 abbrev pub started : ℕ → List ℕ → Result Config CfgFault → Move
 started before text (Ok c) = goes (between (without_scripts c text))
 started before text (Err (faults.Refused line kind)) = stops (statuses.Config (before + line) (number_of kind))

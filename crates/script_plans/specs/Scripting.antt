@@ -64,7 +64,7 @@ strange c line = strange_as (told_of c shut line)
 
 -- ---- between scripts
 
--- the last line of the input stands behind a script at least
+-- the last line of the input stands after a script at least
 abbrev pub ended : ℕ → Plan → Move
 ended number p = if p.count == 0 then stops (statuses.Record number 5) else ends p
 
@@ -91,7 +91,7 @@ between_at number p text = between_as number p (script_line_at text)
 abbrev pub at_moment : Opened → ℕ → Opened
 at_moment o moment = record { party = o.party; actor = o.actor; form = o.form; moment = moment; script = o.script }
 
--- behind a line that makes one, and makes its association of this form
+-- after a line that makes one, and makes its association of this form
 abbrev pub taken : Opened → ℕ → List ℕ → ScriptForm → Step → Opened
 taken o number text form step = record {
   party = o.party;
@@ -101,7 +101,7 @@ taken o number text form step = record {
   script = with_line o.script (record { number = number; text = text; form = o.form; moment = o.moment }) (record { moment = o.moment; step = step });
 }
 
--- by what it tells, where its association is what the script's lines before it made of it; it has no stream
+-- by what it says, where its association is what the script's lines before it made of it; it has no stream
 abbrev pub told_in : ℕ → Plan → Opened → List ℕ → RecLine → Told → Move
 told_in number p o text line skip = goes (inside p o)
 told_in number p o text line (pass_to moment) = goes (inside p (at_moment o moment))

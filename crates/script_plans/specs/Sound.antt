@@ -23,12 +23,12 @@ use Rattle.script_plans.specs.declared.form.ScriptForm.TheVariants as forms
 use Rattle.script_plans.specs.declared.line.StepLine.{StepLine}
 use Rattle.script_plans.specs.Inputs.{outcome, ready}
 
--- actor k is this party's, whose association is of this form behind these lines, the newest first; no line of the process has one
+-- actor k is this party's, whose association is of this form after these lines, the newest first; no line of the process has one
 abbrev pub IsActor : ℕ → Party → List (List ℕ) → ScriptForm → Type 0
 IsActor k (parties.Association a) before form = (k ≡ a.0) × (form_in form ≡ form_at k before)
 IsActor k parties.Process before form = (16 < k) × (form ≡ forms.Shut)
 
--- behind these lines of its script, the newest first, a line tells this step
+-- after these lines of its script, the newest first, a line gives this step
 pub record IsTold (c : Config) (k : ℕ) (before : List (List ℕ)) (l : StepLine) (s : TimedStep) : Type 0 where
   pub line : RecLine
   pub party : Party

@@ -1,4 +1,4 @@
-//! What the association of a script is, and what its lines tell.
+//! What the association of a script is, and what its lines say.
 
 use bay_model::Step;
 use object_model::Model;
@@ -14,7 +14,7 @@ pub enum ScriptForm {
     Shut,
     /// It writes components of blocks, and takes reports as they are.
     Direct,
-    /// It exchanges MMS PDUs (ISO 9506-2) of at most so many octets, 1024 to 65000.
+    /// It exchanges MMS PDUs (ISO 9506-2) of at most n octets, 1024 to 65000.
     Mms(u32),
 }
 
@@ -51,7 +51,7 @@ impl ScriptForm {
         }
     }
 
-    /// What it is behind a line of its script.
+    /// What it is after a line of its script.
     pub fn behind(self, line: &LineView<'_>) -> ScriptForm
         requires ranges { IsLine (line_seen line.now) }
         requires fit { IsFit self }
@@ -69,7 +69,7 @@ impl ScriptForm {
         }
     }
 
-    /// What a line tells, where its association is this. A step is made in the slot.
+    /// What a line says, where its association is this. A step is made in the slot.
     pub fn tell(
         self,
         alloc: Global,
@@ -79,7 +79,9 @@ impl ScriptForm {
     ) -> Result<Told, AllocError>
         requires ranges { IsLine (line_seen line.now) }
         requires fit { IsFit self }
-        ensures { IfOk result (λ told. (heard : List TheHeard) × (telling told step.new heard ≡ told_of model.now (form_in self) (line_seen line.now))) }
+        ensures { IfOk result (λ told. (heard : List TheHeard)
+            × (telling told step.new heard ≡ told_of model.now (form_in self)
+            (line_seen line.now))) }
     {
         let mut heard = Vec::new(alloc);
         let mut form = self.in_record();

@@ -1,6 +1,7 @@
 //! What holds of every plan.
 
-ghost use Rattle.script_plans.specs.Grammar.{RehearsalsComeToTheirPlans, PlansAreOfRehearsals, PlansAreOne};
+ghost use Rattle.script_plans.specs.Grammar.{RehearsalsComeToTheirPlans, PlansAreOfRehearsals};
+ghost use Rattle.script_plans.specs.Grammar.{PlansAreOne};
 ghost use Rattle.script_plans.specs.Sound.{PlansAreSound};
 
 /// A plan's configuration is that of its lines, and each line of a script is told by the script's own lines before it, whatever

@@ -5,7 +5,7 @@ use crate::script::Script;
 use script_lines::Party;
 use sv_base::Moment;
 
-/// A script that has begun: whose it is, the number of its actor, what its association is behind its lines, and the moment of its
+/// A script that has begun: whose it is, the number of its actor, what its association is after its lines, and the moment of its
 /// next step.
 #[derive(Drop)]
 pub struct Opened {

@@ -20,12 +20,12 @@ run-line long count place line more none =
 pub run-rest : (long : Bool) (count : ℕ) (place : Place) (rest : List ℕ) → NoNewline rest → run long count place (pieces rest) ≡ refused (ended long (has_begun rest) (suc count) place)
 run-rest long count place rest none = ap (run long count place) (slice_split_none (λ b. b == 10) rest none)
 
--- behind the lines that may be read
+-- after the lines that may be read
 pub over-lines : (status : Status) (number : ℕ) (place : Place) (line : List ℕ) → most_lines < number → status ≡ passed 1 number place → line_at number place line ≡ stops status
 unfolding line_at
 over-lines status number place line lt told = ap (λ b. if b then stops (passed 1 number place) else lines_at number place line) (lt-ltb most_lines number lt) ∙ ap stops (sym told)
 
--- behind the last newline
+-- after the last newline
 pub ended-long : (status : Status) (long begun : Bool) (number : ℕ) (place : Place) → long ≡ true → status ≡ passed 3 number place → status ≡ ended long begun number place
 unfolding ended
 ended-long status long begun number place is told = told ∙ ap (λ l. if l then passed 3 number place else unended begun number place) (sym is)

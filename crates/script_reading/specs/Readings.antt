@@ -79,7 +79,7 @@ abbrev pub Starts : Started → Move → Type 0
 Starts (starteds.Plans x) move = move ≡ goes (between (plan_seen x))
 Starts (starteds.Refused status) move = move ≡ stops status
 
--- a model of what the text spells, or the status that it is refused with, behind so many lines
+-- a model of what the text spells, or the status that it is refused with, after n lines
 abbrev pub IsModelOf : ℕ → Result Config Status → Result Config CfgFault → Type 0
 IsModelOf before (Ok c) found = found ≡ Ok c
 IsModelOf before (Err status) found = ((text : List ℕ) → started before text found ≡ stops status) × IsRefusal status
@@ -135,7 +135,7 @@ abbrev pub IsRefused : Result Held Status → Type 0
 IsRefused (Ok x) = Unit {0}
 IsRefused (Err status) = IsRefusal status
 
--- behind the last line no script is left open
+-- after the last line no script is left open
 abbrev pub EndsBetween : Next → Place → Type 0
 EndsBetween nexts.End place = IsBetween place
 EndsBetween _ place = Unit {0}

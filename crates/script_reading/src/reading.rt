@@ -4,7 +4,9 @@ ghost use Rattle.std.specs.Prelude.{◌≡◌, ◌≤◌, ◌<◌, ◌+◌, ◌^
 ghost use Rattle.script_plans.specs.Inputs.{outcome};
 ghost use Rattle.script_plans.specs.Plans.{Plan as ThePlan};
 ghost use Rattle.script_plans.specs.Moves.{between};
-ghost use Rattle.script_reading.specs.Readings.{place_of, plan_seen, Reads, HasPlan, IsRefused, IsBetween, IsDecided, IsWell, LinesRead, EndsBetween, Concludes};
+ghost use Rattle.script_reading.specs.Readings.{place_of, plan_seen, Reads, HasPlan, IsRefused};
+ghost use Rattle.script_reading.specs.Readings.{IsBetween, IsDecided, IsWell, LinesRead};
+ghost use Rattle.script_reading.specs.Readings.{EndsBetween, Concludes};
 
 use crate::next::Next;
 use crate::plan::Plan;
@@ -40,7 +42,7 @@ fn read_lines<'a>(
     Ok((Next::On, rest))
 }
 
-/// The plan that stands behind the last line.
+/// The plan that stands after the last line.
 fn planned(session: Session) -> Plan
     requires { IsBetween (place_of session.stage) }
     ensures { (p : ThePlan) → place_of session.stage ≡ between p → plan_seen result ≡ p }
@@ -51,7 +53,7 @@ fn planned(session: Session) -> Plan
     }
 }
 
-/// What the reading of an input comes to, behind its whole lines, or behind the one with which it stopped or ended.
+/// What the reading of an input comes to, after its whole lines, or after the one with which it stopped or ended.
 fn conclude(
     alloc: Global,
     session: Session,
@@ -82,7 +84,7 @@ fn conclude(
 
 /// Reads the input of a rehearsal: a plan, or the status with which it is refused. Every line is checked.
 ///
-/// Fails for want of memory alone.
+/// Fails only when out of memory.
 pub fn read_rehearsal(alloc: Global, octets: &[u8]) -> Result<Result<Plan, Status>, AllocError>
     requires { length octets.now < 2 ^ 61 }
     ensures reads { IfOk result (λ r. Reads r (outcome octets.now)) }

@@ -4,7 +4,8 @@ ghost use Rattle.std.specs.Prelude.{◌≡◌, IfOk, ℕ, List, OnOk};
 ghost use Rattle.run_record.specs.Grammar.{IsLine};
 ghost use Rattle.run_record.specs.Judging.{number_of};
 ghost use Rattle.run_record.specs.Seen.{line_seen};
-ghost use Rattle.script_plans.specs.Scripting.{strange as strange_kind, taken, told_in, inside_step};
+ghost use Rattle.script_plans.specs.Scripting.{strange as strange_kind, taken, told_in};
+ghost use Rattle.script_plans.specs.Scripting.{inside_step};
 ghost use Rattle.script_reading.specs.Readings.{IsDecided, Moved, IsStepless, IsWellOpened};
 ghost use Rattle.record_outcome.specs.declared.status.Status.TheVariants.{Record};
 ghost use Rattle.bay_model.specs.declared.step.Step.{Step as TheStep};
@@ -58,7 +59,7 @@ fn strange(alloc: Global, model: &Model, line: &LineView<'_>) -> Result<Kind, Al
     }
 }
 
-/// Takes a line with its step, behind which its association is of this form.
+/// Takes a line with its step, after which its association is of this form.
 fn take(
     alloc: Global,
     opened: &mut Opened,
@@ -91,8 +92,10 @@ fn take(
 fn pass(opened: &mut Opened, number: u64, told: Told) -> Next
     requires none { IsStepless told }
     requires well { IsWellOpened opened.old }
-    ensures moves { (p : ThePlan) (text : List ℕ) (line : RecLine) (step : TheStep) (heard : List TheHeard)
-        → Moved result (inside p opened.new) (told_in number p opened.old text line (telling told step heard)) }
+    ensures moves { (p : ThePlan) (text : List ℕ) (line : RecLine) (step : TheStep)
+        (heard : List TheHeard)
+        → Moved result (inside p opened.new) (told_in number p opened.old text line
+        (telling told step heard)) }
     ensures decided { IsDecided result }
     ensures well { IsWellOpened opened.new }
 {
@@ -120,7 +123,8 @@ fn act(
     requires ranges { IsLine (line_seen line.now) }
     requires well { IsWellOpened opened.old }
     ensures moves { IfOk result (λ n. (p : ThePlan) (heard : List TheHeard)
-        → Moved n (inside p opened.new) (told_in number p opened.old text.now (line_seen line.now) (telling told step heard))) }
+        → Moved n (inside p opened.new) (told_in number p opened.old text.now (line_seen line.now)
+        (telling told step heard))) }
     ensures decided { IfOk result IsDecided }
     ensures well { OnOk result (IsWellOpened opened.new) }
 {
@@ -176,7 +180,8 @@ fn read_opened(
     requires ranges { IsLine (line_seen line.now) }
     requires well { IsWellOpened opened.old }
     ensures moves { IfOk result (λ n. (p : ThePlan) → p.config ≡ model.now
-        → Moved n (inside p opened.new) (inside_step number p opened.old text.now (line_seen line.now))) }
+        → Moved n (inside p opened.new) (inside_step number p opened.old text.now
+        (line_seen line.now))) }
     ensures decided { IfOk result IsDecided }
     ensures well { OnOk result (IsWellOpened opened.new) }
 {
@@ -241,7 +246,8 @@ impl Plan {
 
     /// There are 16 scripts, or the actor has one.
     fn is_taken(&self, actor: u32) -> bool
-        ensures { result ≡ ((self.now.count == most_scripts) || is_some (script_of (plan_seen self.now) actor)) }
+        ensures { result ≡ ((self.now.count == most_scripts) || is_some
+            (script_of (plan_seen self.now) actor)) }
     {
         self.count == MOST_SCRIPTS || self.has(actor)
     }
@@ -283,9 +289,11 @@ impl Scripts {
     ghost use Rattle.run_record.specs.Seen.{line_seen};
     ghost use Rattle.script_lines.specs.Grammar.{IsParty};
     ghost use Rattle.script_lines.specs.Seen.{view_seen};
-    ghost use Rattle.script_plans.specs.Scripting.{begins, ended, between_line, inside_step, inside_line, among_line};
+    ghost use Rattle.script_plans.specs.Scripting.{begins, ended, between_line, inside_step};
+    ghost use Rattle.script_plans.specs.Scripting.{inside_line, among_line};
     ghost use Rattle.script_plans.specs.Inputs.{lines_at};
-    ghost use Rattle.script_reading.specs.Readings.{plan_seen, scripts_seen, Moved, IsDecided, IsRoomy, IsWellOpened, IsWellScripts, IsView};
+    ghost use Rattle.script_reading.specs.Readings.{plan_seen, scripts_seen, Moved, IsDecided};
+    ghost use Rattle.script_reading.specs.Readings.{IsRoomy, IsWellOpened, IsWellScripts, IsView};
 
     /// No script is read yet.
     pub fn new(plan: Plan) -> Self
@@ -311,7 +319,8 @@ impl Scripts {
         requires between { self.old.current ≡ None }
         requires party { IsParty party }
         requires well { IsWellScripts self.old }
-        ensures moves { Moved result (scripts_seen self.new) (begins number (plan_seen self.old.plan) party) }
+        ensures moves { Moved result (scripts_seen self.new)
+            (begins number (plan_seen self.old.plan) party) }
         ensures decided { IsDecided result }
         ensures well { IsWellScripts self.new }
     {
@@ -327,7 +336,8 @@ impl Scripts {
     /// The last line of an input.
     fn end(&self, number: u64) -> Next
         requires between { self.now.current ≡ None }
-        ensures moves { Moved result (scripts_seen self.now) (ended number (plan_seen self.now.plan)) }
+        ensures moves { Moved result (scripts_seen self.now)
+            (ended number (plan_seen self.now.plan)) }
         ensures decided { IsDecided result }
     {
         if self.plan.count == 0 {
@@ -346,7 +356,8 @@ impl Scripts {
         requires between { self.old.current ≡ None }
         requires ranges { IsView (view_seen view.now) }
         requires well { IsWellScripts self.old }
-        ensures moves { IfOk result (λ n. Moved n (scripts_seen self.new) (between_line number (plan_seen self.old.plan) (view_seen view.now))) }
+        ensures moves { IfOk result (λ n. Moved n (scripts_seen self.new)
+            (between_line number (plan_seen self.old.plan) (view_seen view.now))) }
         ensures decided { IfOk result IsDecided }
         ensures well { OnOk result (IsWellScripts self.new) }
     {
@@ -374,7 +385,8 @@ impl Scripts {
         requires ranges { IsLine (line_seen line.now) }
         requires roomy { IsRoomy self.old.plan }
         requires well { IsWellOpened opened }
-        ensures moves { IfOk result (λ n. Moved n (scripts_seen self.new) (inside_step number (plan_seen self.old.plan) opened text.now (line_seen line.now))) }
+        ensures moves { IfOk result (λ n. Moved n (scripts_seen self.new)
+            (inside_step number (plan_seen self.old.plan) opened text.now (line_seen line.now))) }
         ensures decided { IfOk result IsDecided }
         ensures well { OnOk result (IsWellScripts self.new) }
     {
@@ -397,7 +409,8 @@ impl Scripts {
         requires ranges { IsView (view_seen view.now) }
         requires roomy { IsRoomy self.old.plan }
         requires well { IsWellOpened opened }
-        ensures moves { IfOk result (λ n. Moved n (scripts_seen self.new) (inside_line number (plan_seen self.old.plan) opened text.now (view_seen view.now))) }
+        ensures moves { IfOk result (λ n. Moved n (scripts_seen self.new)
+            (inside_line number (plan_seen self.old.plan) opened text.now (view_seen view.now))) }
         ensures decided { IfOk result IsDecided }
         ensures well { OnOk result (IsWellScripts self.new) }
     {
@@ -411,7 +424,7 @@ impl Scripts {
         }
     }
 
-    /// Reads a line that tells something.
+    /// Reads a line that says something.
     fn read_view(
         &mut self,
         alloc: Global,
@@ -422,7 +435,8 @@ impl Scripts {
         requires ranges { IsView (view_seen view.now) }
         requires well { IsWellScripts self.old }
         ensures moves { IfOk result (λ n. Moved n (scripts_seen self.new)
-            (among_line number (plan_seen self.old.plan) self.old.current text.now (view_seen view.now))) }
+            (among_line number (plan_seen self.old.plan) self.old.current text.now
+            (view_seen view.now))) }
         ensures decided { IfOk result IsDecided }
         ensures well { OnOk result (IsWellScripts self.new) }
     {
@@ -435,7 +449,8 @@ impl Scripts {
     /// Reads a line, without its newline.
     pub fn read(&mut self, alloc: Global, number: u64, line: &[u8]) -> Result<Next, AllocError>
         requires well { IsWellScripts self.old }
-        ensures moves { IfOk result (λ n. Moved n (scripts_seen self.new) (lines_at number (scripts_seen self.old) line.now)) }
+        ensures moves { IfOk result (λ n. Moved n (scripts_seen self.new)
+            (lines_at number (scripts_seen self.old) line.now)) }
         ensures decided { IfOk result IsDecided }
         ensures well { OnOk result (IsWellScripts self.new) }
     {

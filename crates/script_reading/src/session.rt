@@ -34,7 +34,8 @@ impl Session {
     pub fn read(&mut self, alloc: Global, line: &[u8]) -> Result<Next, AllocError>
         requires well { IsWell self.old.stage }
         requires lines { self.old.lines < 2 ^ 61 }
-        ensures moves { IfOk result (λ n. Moved n (place_of self.new.stage) (line_at (suc self.old.lines) (place_of self.old.stage) line.now)) }
+        ensures moves { IfOk result (λ n. Moved n (place_of self.new.stage)
+            (line_at (suc self.old.lines) (place_of self.old.stage) line.now)) }
         ensures decided { IfOk result IsDecided }
         ensures well { OnOk result (IsWell self.new.stage) }
         ensures lines { OnOk result (self.new.lines ≡ suc self.old.lines) }
@@ -66,7 +67,8 @@ impl Session {
     pub fn ended(&self, alloc: Global, long: bool, begun: bool) -> Result<Status, AllocError>
         requires well { IsWell self.now.stage }
         requires lines { self.now.lines < 2 ^ 61 }
-        ensures status { IfOk result (λ s. s ≡ ended_at long begun (suc self.now.lines) (place_of self.now.stage)) }
+        ensures status { IfOk result (λ s. s ≡ ended_at long begun (suc self.now.lines)
+            (place_of self.now.stage)) }
         ensures refusal { IfOk result IsRefusal }
     {
         let number = self.lines + 1;

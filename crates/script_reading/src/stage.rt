@@ -26,9 +26,11 @@ impl Stage {
     ghost use Rattle.std.specs.Prelude.{◌≡◌, ◌<◌, ◌^◌, IfOk, OnOk};
     ghost use Rattle.script_plans.specs.Moves.{Move};
     ghost use Rattle.script_plans.specs.Openings.{opening_at, started};
-    ghost use Rattle.script_plans.specs.Inputs.{lines_at, passed as passed_at, missing as missing_at};
+    ghost use Rattle.script_plans.specs.Inputs.{lines_at, passed as passed_at};
+    ghost use Rattle.script_plans.specs.Inputs.{missing as missing_at};
     ghost use Rattle.record_outcome.specs.Judgements.{IsRefusal};
-    ghost use Rattle.script_reading.specs.Readings.{place_of, Moved, IsDecided, IsWell, Starts, IsSoundStart};
+    ghost use Rattle.script_reading.specs.Readings.{place_of, Moved, IsDecided, IsWell, Starts};
+    ghost use Rattle.script_reading.specs.Readings.{IsSoundStart};
     ghost use Rattle.script_reading.specs.declared.stage.Stage.TheVariants as stages;
 
     /// Goes on to another part.
@@ -42,7 +44,8 @@ impl Stage {
     fn open(&mut self, alloc: Global, number: u64, line: &[u8]) -> Result<Next, AllocError>
         requires stage { self.old ≡ stages.Opening }
         requires number { number < 2 ^ 62 }
-        ensures moves { IfOk result (λ n. Moved n (place_of self.new) (opening_at number line.now)) }
+        ensures moves { IfOk result (λ n. Moved n (place_of self.new)
+            (opening_at number line.now)) }
         ensures decided { IfOk result IsDecided }
         ensures well { OnOk result (IsWell self.new) }
     {
@@ -72,7 +75,8 @@ impl Stage {
     /// Goes on with what became of the configuration.
     fn settle(&mut self, started: Started) -> Next
         requires sound { IsSoundStart started }
-        ensures moves { (move : Move) → Starts started move → Moved result (place_of self.new) move }
+        ensures moves { (move : Move) → Starts started move
+            → Moved result (place_of self.new) move }
         ensures decided { IsDecided result }
         ensures well { IsSoundStart started → IsWell self.old → IsWell self.new }
     {
@@ -89,7 +93,8 @@ impl Stage {
     pub fn read(&mut self, alloc: Global, number: u64, line: &[u8]) -> Result<Next, AllocError>
         requires well { IsWell self.old }
         requires number { number < 2 ^ 62 }
-        ensures moves { IfOk result (λ n. Moved n (place_of self.new) (lines_at number (place_of self.old) line.now)) }
+        ensures moves { IfOk result (λ n. Moved n (place_of self.new)
+            (lines_at number (place_of self.old) line.now)) }
         ensures decided { IfOk result IsDecided }
         ensures well { OnOk result (IsWell self.new) }
     {

@@ -33,7 +33,7 @@ fn no_scripts(alloc: Global) -> Result<Vec<Option<Script>>, AllocError>
     Ok(slots)
 }
 
-/// The model of the configuration of this text, behind so many lines, or the status that refuses it.
+/// The model of the configuration of this text, after n lines, or the status that refuses it.
 fn model_of(alloc: Global, before: u64, text: &[u8]) -> Result<Result<Model, Status>, AllocError>
     requires { before < 2 ^ 62 }
     ensures { IfOk result (λ found. IsModelOf before found (config_at text.now)) }
@@ -51,8 +51,10 @@ fn model_of(alloc: Global, before: u64, text: &[u8]) -> Result<Result<Model, Sta
 /// What becomes of a text, and the places of actors, by the model that was found or the status that refuses the text.
 fn started_with(found: Result<Model, Status>, text: Vec<u8>, slots: Vec<Option<Script>>) -> Started
     requires { slots.items ≡ replicate 33 None }
-    ensures starts { (before : ℕ) → IsModelOf before found (config_at text.items) → Starts result (started before text.items (config_at text.items)) }
-    ensures sound { (before : ℕ) → IsModelOf before found (config_at text.items) → IsSoundStart result }
+    ensures starts { (before : ℕ) → IsModelOf before found (config_at text.items)
+        → Starts result (started before text.items (config_at text.items)) }
+    ensures sound { (before : ℕ) → IsModelOf before found (config_at text.items)
+        → IsSoundStart result }
 {
     match found {
         Ok(model) => Started::Plans(Plan {
@@ -66,10 +68,11 @@ fn started_with(found: Result<Model, Status>, text: Vec<u8>, slots: Vec<Option<S
     }
 }
 
-/// Reads the configuration of this text, behind so many lines.
+/// Reads the configuration of this text, after n lines.
 pub fn start(alloc: Global, before: u64, text: Vec<u8>) -> Result<Started, AllocError>
     requires { before < 2 ^ 62 }
-    ensures starts { IfOk result (λ s. Starts s (started before text.items (config_at text.items))) }
+    ensures starts { IfOk result
+        (λ s. Starts s (started before text.items (config_at text.items))) }
     ensures sound { IfOk result IsSoundStart }
 {
     let slots = no_scripts(alloc)?;

@@ -1,4 +1,4 @@
--- A pass that has played a part of a script plays on.
+-- A pass that has run a part of a script runs on.
 use Rattle.std.proofs.Common.{◌≡◌, ◌≢◌, ℕ, ◌+◌, ◌<◌, eq-eqb, cond, List, [], ◌∷◌, ◌++◌, length, take, get_or, inl, sym, refl, ap, subst, ◌∙◌, arith, length-append, append_assoc}
 use Rattle.std.specs.Prelude.{Ok, Err, Some, slice_get}
 use Rattle.std.proofs.lemmas.List.{take_more}
@@ -38,7 +38,7 @@ same_numbers p q same k has = subst (InSome k) (λ i. (sym same.2 i, sym same.3 
 pub same_more : (p q r : Known) → IsSamePass p q → IsSamePass q r → IsSamePass p r
 same_more p q r a b = (b.0 ∙ a.0, b.1 ∙ a.1, b.2 ∙ a.2, b.3 ∙ a.3, b.4 ∙ a.4)
 
--- the steps of other numbers of the pass, behind a turn
+-- the steps of other numbers of the pass, after a turn
 rest_between : (q : Known) (between : History) (k : ℕ) → OfOthers q between → HasNumber q k → by k (between ++ q.seen) ≡ by k q.seen
 rest_between q between k others has = by-append k between q.seen ∙ ap (λ (l : History). l ++ by k q.seen) (others k has)
 

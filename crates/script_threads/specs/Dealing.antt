@@ -13,11 +13,11 @@ use Rattle.script_threads.specs.Playing.{IsOf, Went}
 abbrev pub IsRest : Site → ℕ → Known → Type 0
 IsRest h above p = IsOf h p × (p.first ≡ 0) × (p.count ≡ above) × (p.joined ≡ []) × (p.seen ≡ []) × (above * 2 ^ 55 ≤ p.left)
 
--- a pass of this history that has seen nothing, with so many turns, whose lowest number is the script's
+-- a pass of this history that has seen nothing, with n turns, whose lowest number is the script's
 abbrev pub IsFresh : Site → Known × Script → Type 0
 IsFresh h x = IsOf h x.0 × (0 < x.0.count) × (x.0.left ≡ 2 ^ 55) × (x.0.seen ≡ []) × (x.1.actor ≡ x.0.first)
 
--- an actor can play its script with this pass, and there is room for the replies
+-- an actor can run its script with this pass, and there is capacity for the replies
 abbrev pub IsReady : Site → Known → Script → Vec Reply Global → Type 0
 IsReady h p s replies = IsOf h p × (0 < p.count) × (length s.steps.items ≤ p.left) × AreFit h.config s.steps.items
     × (replies.items ≡ []) × (length s.steps.items ≤ vec_capacity replies)

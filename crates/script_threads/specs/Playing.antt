@@ -1,4 +1,4 @@
--- A script that an actor plays with its pass.
+-- A script that an actor runs with its pass.
 use Rattle.std.specs.Prelude.{◌≡◌, ◌≢◌, ◌≤◌, ℕ, List, ◌++◌, length, take}
 use Rattle.bay_histories.specs.Rules.{Rules}
 use Rattle.bay_histories.specs.Histories.{by, IsLegal}
@@ -23,7 +23,7 @@ pub record Plays (rules : Rules) (p : Known) (steps : List TimedStep) (replies :
   pub told : replies_of rules p.config p.first q.seen ≡ replies_of rules p.config p.first p.seen ++ replies
   pub legal : IsLegal rules p.config p.seen → IsLegal rules p.config q.seen
 
--- what came of a script that an actor played with the pass p
+-- what came of a script that an actor ran with the pass p
 pub record Went {M : Type 0} (rules : Rules) (p : Known) (script : Script) (played : Played M) : Type 0 where
   pub actor : played.part.actor ≡ script.actor
   pub plays : Plays rules p script.steps.items played.part.replies.items played.pass

@@ -1,4 +1,4 @@
--- Passes that are joined behind a race.
+-- Passes that are joined after a race.
 use Rattle.std.specs.Prelude.{◌≡◌, ◌≤◌, ℕ, List, [], ◌∷◌}
 use Rattle.bay_model.specs.Answers.{History}
 use Rattle.bay_histories.specs.Histories.{IsEarlier, by}

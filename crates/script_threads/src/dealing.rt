@@ -15,7 +15,7 @@ use sv_io::Gate;
 /// The turns of an actor: more than its script has steps.
 const TURNS: u64 = 1 << 55;
 
-/// The job of an actor: the pass of the numbers from its own below `above`, and room for its replies.
+/// The job of an actor: the pass of the numbers from its own below `above`, and memory for its replies.
 fn job_of<M: StateMachine, G: Gate>(
     alloc: Global,
     history: &History<M>,
@@ -27,8 +27,10 @@ fn job_of<M: StateMachine, G: Gate>(
     requires number { (0 < actor.script.actor) × (actor.script.actor < above) }
     requires steps { CanPlay history.now.config actor.script }
     ensures rest { IfOk result (λ _. IsRest history.now actor.script.actor pass.new) }
-    ensures fresh { IfOk result (λ job. IsFresh history.now (job.pass, job.script) × (job.pass.first + job.pass.count ≡ above)) }
-    ensures ready { IfOk result (λ job. (job.script ≡ actor.script) × IsReady history.now job.pass job.script job.replies) }
+    ensures fresh { IfOk result (λ job. IsFresh history.now (job.pass, job.script)
+        × (job.pass.first + job.pass.count ≡ above)) }
+    ensures ready { IfOk result (λ job. (job.script ≡ actor.script)
+        × IsReady history.now job.pass job.script job.replies) }
 {
     let Actor { script, gate } = actor;
     let replies = Vec::with_capacity(alloc, script.steps.len())?;
@@ -52,9 +54,12 @@ pub fn deal<M: StateMachine, G: Gate>(
     requires numbers { AreFalling 33 (map (λ a. a.script.actor) actors.items) }
     requires steps { All (λ a. CanPlay history.now.config a.script) actors.items }
     ensures rest { IfOk result (λ _. IsRest history.now pass.new.count pass.new) }
-    ensures dealt { IfOk result (λ jobs. Dealt history.now pass.new.count 33 (map (λ j. (j.pass, j.script)) jobs.items)) }
-    ensures scripts { IfOk result (λ jobs. map (λ j. j.script) jobs.items ≡ map (λ a. a.script) actors.items) }
-    ensures ready { IfOk result (λ jobs. All (λ j. IsReady history.now j.pass j.script j.replies) jobs.items) }
+    ensures dealt { IfOk result (λ jobs. Dealt history.now pass.new.count 33
+        (map (λ j. (j.pass, j.script)) jobs.items)) }
+    ensures scripts { IfOk result (λ jobs. map (λ j. j.script) jobs.items
+        ≡ map (λ a. a.script) actors.items) }
+    ensures ready { IfOk result
+        (λ jobs. All (λ j. IsReady history.now j.pass j.script j.replies) jobs.items) }
 {
     let mut above = 33;
     let mut jobs = Vec::new(alloc);

@@ -17,8 +17,10 @@ fn joined<M: StateMachine>(history: &History<M>, pass: &mut Pass<M>, played: Pla
     requires pass { IsOf history.now pass.old }
     requires played { IsOf history.now played.pass }
     ensures part { result ≡ played.part }
-    ensures pass { IsOf history.now pass.new × Gathers pass.old pass.new × Gathers played.pass pass.new }
-    ensures legal { IsLegal M.rules history.now.config pass.old.seen → IsLegal M.rules history.now.config played.pass.seen
+    ensures pass { IsOf history.now pass.new × Gathers pass.old pass.new
+        × Gathers played.pass pass.new }
+    ensures legal { IsLegal M.rules history.now.config pass.old.seen
+        → IsLegal M.rules history.now.config played.pass.seen
         → IsLegal M.rules history.now.config pass.new.seen }
 {
     let Played { pass: other, part } = played;
@@ -34,7 +36,8 @@ pub fn gather<M: StateMachine>(
     all: Vec<Played<M>>,
 ) -> Result<Vec<Part>, AllocError>
     requires pass { IsOf history.now pass.old × IsLegal M.rules history.now.config pass.old.seen }
-    requires played { All (λ d. IsOf history.now d.pass × IsLegal M.rules history.now.config d.pass.seen) all.items }
+    requires played { All (λ d. IsOf history.now d.pass
+        × IsLegal M.rules history.now.config d.pass.seen) all.items }
     ensures parts { IfOk result (λ v. v.items ≡ map (λ d. d.part) all.items) }
     ensures pass { IfOk result (λ _. IsOf history.now pass.new × Gathers pass.old pass.new
         × IsLegal M.rules history.now.config pass.new.seen) }

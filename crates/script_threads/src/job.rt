@@ -4,7 +4,7 @@ use actor_scripts::{Part, Reply, Script};
 use bay_histories::StateMachine;
 use history_lock::Pass;
 
-/// What an actor's thread is given: its pass, and room for the replies to all steps of its script.
+/// What an actor's thread is given: its pass, and memory for the replies to all steps of its script.
 #[derive(Drop)]
 pub struct Job<M: StateMachine, G: Drop> {
     pub pass: Pass<M>,

@@ -4,7 +4,7 @@
 //! is written, is a matter of the crates above.
 #![tactic(auto)]
 
-// passes are dealt, each actor plays in a thread of its own, and the passes are joined
+// passes are dealt, each actor runs in a thread of its own, and the passes are joined
 mod dealing;
 mod gathering;
 mod job;

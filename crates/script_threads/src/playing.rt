@@ -1,4 +1,4 @@
-//! An actor plays its script.
+//! An actor runs its script.
 
 ghost use Rattle.std.specs.Prelude.{◌≡◌, ◌<◌, ◌≤◌, [], length, vec_capacity};
 ghost use Rattle.history_lock.specs.declared.fault.TurnFault.TheVariants.{Ended, Step};
@@ -40,7 +40,8 @@ pub fn play<R: Wait, M: StateMachine, G: Gate>(
     requires steps { AreFit history.now.config steps.now }
     requires room { (replies.old.items ≡ []) × (length steps.now ≤ vec_capacity replies.old) }
     ensures plays { Plays M.rules pass.old steps.now replies.new.items pass.new }
-    ensures stops { StopsAt M.rules pass.old.config pass.old.first steps.now (length replies.new.items) result pass.new.seen }
+    ensures stops { StopsAt M.rules pass.old.config pass.old.first steps.now
+        (length replies.new.items) result pass.new.seen }
 {
     for timed in steps {
         gate.pass(replies.len() as u64);

@@ -36,7 +36,7 @@ pub struct Raced {
     pub parts: Vec<Part>,
 }
 
-/// Each actor plays in a thread of its own.
+/// Each actor runs in a thread of its own.
 fn play_all<R: Threads + Wait + Sync, M: StateMachine, G: Gate>(
     rt: &R,
     history: &History<M>,
@@ -44,8 +44,10 @@ fn play_all<R: Threads + Wait + Sync, M: StateMachine, G: Gate>(
 ) -> Result<Vec<Played<M>>, AllocError>
     requires { All (λ j. IsReady history.now j.pass j.script j.replies) jobs.items }
     ensures len { IfOk result (λ v. length v.items ≡ length jobs.items) }
-    ensures each { IfOk result (λ v. (i : ℕ) (x : Known × TheScript) (d : TheGiven M) → i < length jobs.items
-        → Went M.rules (slice_index_or (map (λ j. (j.pass, j.script)) jobs.items) i x).0 (slice_index_or (map (λ j. (j.pass, j.script)) jobs.items) i x).1
+    ensures each { IfOk result (λ v. (i : ℕ) (x : Known × TheScript) (d : TheGiven M)
+        → i < length jobs.items
+        → Went M.rules (slice_index_or (map (λ j. (j.pass, j.script)) jobs.items) i x).0
+        (slice_index_or (map (λ j. (j.pass, j.script)) jobs.items) i x).1
         (slice_index_or v.items i d)) }
 {
     map_vec(
@@ -58,7 +60,7 @@ fn play_all<R: Threads + Wait + Sync, M: StateMachine, G: Gate>(
     )
 }
 
-/// Deals the numbers of a history that has no step, lets each actor play in a thread of its own, and joins their passes: what came
+/// Deals the numbers of a history that has no step, lets each actor run in a thread of its own, and joins their passes: what came
 /// of the scripts.
 fn play_scripts<R: Threads + Wait + Sync, M: StateMachine, G: Gate>(
     rt: &R,
@@ -70,9 +72,11 @@ fn play_scripts<R: Threads + Wait + Sync, M: StateMachine, G: Gate>(
     requires pass { IsRest history.now 33 pass.old }
     requires numbers { AreFalling 33 (map (λ a. a.script.actor) actors.items) }
     requires steps { All (λ a. CanPlay history.now.config a.script) actors.items }
-    ensures numbers { IfOk result (λ _. (pass.new.table ≡ history.now.table) × ((k : ℕ) → k < 33 → HasNumber pass.new k)) }
+    ensures numbers { IfOk result (λ _. (pass.new.table ≡ history.now.table) × ((k : ℕ) → k < 33
+        → HasNumber pass.new k)) }
     ensures raced { IfOk result (λ v. HasNoOthers pass.new.seen
-        → IsRaced M.rules history.now.config (map (λ a. a.script) actors.items) v.items pass.new.seen) }
+        → IsRaced M.rules history.now.config
+        (map (λ a. a.script) actors.items) v.items pass.new.seen) }
 {
     let jobs = deal(alloc, history, pass, actors)?;
     let all = play_all(rt, history, jobs)?;
@@ -110,7 +114,7 @@ fn run<R: Threads + Wait + Sync, M: StateMachine, G: Gate>(
 /// Runs scripts over a machine that has made no step, each actor in a thread of its own, one turn a step. An actor stops at its first
 /// turn that is refused. The actors' numbers fall, from 32 or below; of what they do at once nothing is claimed.
 ///
-/// Fails for want of memory alone; want of it in a turn is that turn's fault.
+/// Fails only when out of memory; out of memory in a turn is that turn's fault.
 pub fn race<R: Threads + Wait + Sync, M: StateMachine, G: Gate>(
     rt: &R,
     alloc: Global,

@@ -25,7 +25,7 @@ PerformsInput o (Err (statuses.Limit which line)) = (o ≡ refused (statuses.Lim
 PerformsInput o (Err _) = ⊥
 
 -- The status has its cause in what the input comes to, and this is what the sink took: nothing unless all turns went. Since an input
--- comes to one thing, each of these statuses comes exactly where its cause is there, but for want of memory and faults, and but for
+-- comes to one thing, each of these statuses comes exactly where its cause is there, but out of memory and faults, and but for
 -- Limit 2 where a script writes an Oper of a control under enhanced security.
 abbrev pub Rehearses : Outcome → Status → Option (List ℕ) → Option (List ℕ) → Type 0
 Rehearses o statuses.Ok old new = (p : Plan) × (octets : List ℕ) × (o ≡ ready p) × Goes p octets × Appends old new octets
@@ -70,12 +70,12 @@ pub record EndsAs (p : Plan) (status : Status) : Type 0 where
   -- at the lowest of them, where no script writes an Oper of a control under enhanced security
   pub exact : IsWithoutOpers p → status ≡ ends_at (lowest_beyond p)
 
--- the status of an input that comes to this, where memory isn't wanting and neither end fails
+-- the status of an input that comes to this, where memory isn't lacking and neither end fails
 abbrev pub IsStatusOf : Outcome → Status → Type 0
 IsStatusOf (refused first) status = status ≡ first
 IsStatusOf (ready p) status = EndsAs p status
 
--- a status that is neither for want of memory nor for a fault
+-- a status that is neither when out of memory nor for a fault
 abbrev pub IsEnding : Status → Type 0
 IsEnding statuses.Memory = ⊥
 IsEnding statuses.ReadFault = ⊥

@@ -10,7 +10,8 @@ ghost use Rattle.script_plans.specs.Sound.{IsSound};
 ghost use Rattle.race_records.specs.Merged.{book_seen};
 ghost use Rattle.race_settling.specs.Races.{IsOfPlan};
 ghost use Rattle.race_settling.specs.Settled.{Performs};
-ghost use Rattle.server_run.specs.Rehearsals.{most, PerformsInput, Rehearses, IsOfRehearsal, IsListed};
+ghost use Rattle.server_run.specs.Rehearsals.{most, PerformsInput, Rehearses, IsOfRehearsal};
+ghost use Rattle.server_run.specs.Rehearsals.{IsListed};
 
 use actor_scripts::Actor;
 use bay_races::race_over;
@@ -37,8 +38,10 @@ fn play_cast<R: Threads + Wait + Sync, G: Gate>(
     book: &[Vec<StepLine>],
     actors: Vec<Actor<G>>,
 ) -> Result<Result<Vec<u8>, Status>, AllocError>
-    requires plan { (p : ThePlan) × IsOfPlan p model.now text.now (book_seen book.now) (map (λ a. a.script) actors.items) }
-    ensures { (p : ThePlan) → IsOfPlan p model.now text.now (book_seen book.now) (map (λ a. a.script) actors.items) → IfOk result (Performs p) }
+    requires plan { (p : ThePlan) × IsOfPlan p model.now text.now (book_seen book.now)
+        (map (λ a. a.script) actors.items) }
+    ensures { (p : ThePlan) → IsOfPlan p model.now text.now (book_seen book.now)
+        (map (λ a. a.script) actors.items) → IfOk result (Performs p) }
 {
     let raced = race_over(rt, alloc, model, actors)?;
     settle(alloc, model, text, book, raced)
@@ -68,7 +71,7 @@ fn perform<R: Threads + Wait + Sync, G: Gate>(
     }
 }
 
-/// Reads a plan whole, and performs it.
+/// Reads a plan whole, and runs it.
 fn perform_input<R: Threads + Wait + Sync, G: Gate>(
     rt: &R,
     alloc: Global,
@@ -89,10 +92,11 @@ fn perform_input<R: Threads + Wait + Sync, G: Gate>(
     }
 }
 
-/// Writes what a performance came to, if it came to a record with its answers: the status.
+/// Writes what a race came to, if it came to a record with its answers: the status.
 fn deliver<K: Sink>(performed: Result<Result<Vec<u8>, Status>, AllocError>, sink: &mut K) -> Status
     requires { (o : Outcome) × IfOk performed (PerformsInput o) }
-    ensures rehearses { (o : Outcome) → IfOk performed (PerformsInput o) → Rehearses o result (K.taken sink.old) (K.taken sink.new) }
+    ensures rehearses { (o : Outcome) → IfOk performed (PerformsInput o)
+        → Rehearses o result (K.taken sink.old) (K.taken sink.new) }
     ensures listed { IsListed result }
     ensures write { result ≡ Status.WriteFault → Rose (K.faults sink.old) (K.faults sink.new) }
     ensures later { K.faults sink.old ≤ K.faults sink.new }
@@ -107,9 +111,9 @@ fn deliver<K: Sink>(performed: Result<Result<Vec<u8>, Status>, AllocError>, sink
     }
 }
 
-/// Reads a configuration and one script per actor, and checks every script before any thread starts. Then each actor plays its
+/// Reads a configuration and one script per actor, and checks every script before any thread starts. Then each actor runs its
 /// script in a thread of its own against one history, one turn a line, and passes its gate before each turn: the i-th gate is
-/// that of the i-th script. Where all turns went, the record that they made is written, and behind it its answers.
+/// that of the i-th script. Where all turns went, the record that they made is written, and after it its answers.
 pub fn rehearse_gated<R: Threads + Wait + Sync, S: Source, K: Sink, G: Gate>(
     rt: &R,
     alloc: Global,
@@ -120,10 +124,12 @@ pub fn rehearse_gated<R: Threads + Wait + Sync, S: Source, K: Sink, G: Gate>(
     requires gates { length gates.items ≡ 16 }
 
     // Every status and what the sink took, by what the input comes to.
-    ensures rehearses { IfSome (S.left source.old) (λ b. Rehearses (outcome (take most b)) result (K.taken sink.old) (K.taken sink.new)) }
+    ensures rehearses { IfSome (S.left source.old) (λ b. Rehearses (outcome (take most b)) result
+        (K.taken sink.old) (K.taken sink.new)) }
 
     // What the octets are by the grammar.
-    ensures plan { IfSome (S.left source.old) (λ b. IsOfRehearsal b result (K.taken sink.old) (K.taken sink.new)) }
+    ensures plan { IfSome (S.left source.old) (λ b. IsOfRehearsal b result (K.taken sink.old)
+        (K.taken sink.new)) }
 
     // At most one octet more is taken from the source than an input may have.
     ensures taken { TakesAtMost 67108865 (S.left source.old) (S.left source.new) }
@@ -132,7 +138,8 @@ pub fn rehearse_gated<R: Threads + Wait + Sync, S: Source, K: Sink, G: Gate>(
     ensures words { result ≢ Status.Words }
     ensures read { result ≡ Status.ReadFault → Rose (S.faults source.old) (S.faults source.new) }
     ensures write { result ≡ Status.WriteFault → Rose (K.faults sink.old) (K.faults sink.new) }
-    ensures later { (S.faults source.old ≤ S.faults source.new) × (K.faults sink.old ≤ K.faults sink.new) }
+    ensures later { (S.faults source.old ≤ S.faults source.new)
+        × (K.faults sink.old ≤ K.faults sink.new) }
 {
     match read_whole(alloc, source, MOST) {
         Ok(octets) => deliver(perform_input(rt, alloc, gates, octets), sink),
@@ -141,7 +148,7 @@ pub fn rehearse_gated<R: Threads + Wait + Sync, S: Source, K: Sink, G: Gate>(
     }
 }
 
-/// So many open gates.
+/// This many open gates.
 fn open_gates(alloc: Global) -> Result<Vec<OpenGate>, AllocError>
     ensures { IfOk result (λ v. length v.items ≡ 16) }
 {
@@ -160,10 +167,12 @@ pub fn rehearse<R: Threads + Wait + Sync, S: Source, K: Sink>(
     sink: &mut K,
 ) -> Status
     // Every status and what the sink took, by what the input comes to.
-    ensures rehearses { IfSome (S.left source.old) (λ b. Rehearses (outcome (take most b)) result (K.taken sink.old) (K.taken sink.new)) }
+    ensures rehearses { IfSome (S.left source.old) (λ b. Rehearses (outcome (take most b)) result
+        (K.taken sink.old) (K.taken sink.new)) }
 
     // What the octets are by the grammar.
-    ensures plan { IfSome (S.left source.old) (λ b. IsOfRehearsal b result (K.taken sink.old) (K.taken sink.new)) }
+    ensures plan { IfSome (S.left source.old) (λ b. IsOfRehearsal b result (K.taken sink.old)
+        (K.taken sink.new)) }
 
     // At most one octet more is taken from the source than an input may have.
     ensures taken { TakesAtMost 67108865 (S.left source.old) (S.left source.new) }
@@ -172,7 +181,8 @@ pub fn rehearse<R: Threads + Wait + Sync, S: Source, K: Sink>(
     ensures words { result ≢ Status.Words }
     ensures read { result ≡ Status.ReadFault → Rose (S.faults source.old) (S.faults source.new) }
     ensures write { result ≡ Status.WriteFault → Rose (K.faults sink.old) (K.faults sink.new) }
-    ensures later { (S.faults source.old ≤ S.faults source.new) × (K.faults sink.old ≤ K.faults sink.new) }
+    ensures later { (S.faults source.old ≤ S.faults source.new)
+        × (K.faults sink.old ≤ K.faults sink.new) }
 {
     match open_gates(alloc) {
         Ok(gates) => rehearse_gated(rt, alloc, gates, source, sink),

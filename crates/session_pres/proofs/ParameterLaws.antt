@@ -74,7 +74,7 @@ piece_is a b p q r =
     ∙ ap (λ (x : ℕ). let y : Piece = record { octets = b.octets; block = x; place = a.place } in y) q
     ∙ ap (λ (x : ℕ). let y : Piece = record { octets = b.octets; block = b.block; place = x } in y) r
 
--- what is behind a code and a length
+-- what is after a code and a length
 behind_head : (octets : List ℕ) (code : ℕ) (len body : List ℕ) (n : ℕ) → octets ≡ code ∷ (len ++ body) → n ≡ length len + 1 → drop n octets ≡ body
 behind_head octets code len body n p q = ap (drop n) p ∙ drop_at (code ∷ len) body n (omega (arith, q))
 

@@ -65,7 +65,7 @@ pub record Chosen : Type 0 where
 abbrev pub IsChosen : List ℕ → List Context → Chosen → Type 0
 IsChosen syntax contexts chosen = (d : Context) × IsFirst syntax contexts chosen.place d × (d.has_ber ≡ true) × (chosen.number ≡ d.number)
 
--- whether each of so many contexts, from this place on, is one of the two
+-- whether each of n contexts, from this place on, is one of the two
 abbrev pub flags_from : ℕ → ℕ → ℕ → ℕ → List Bool
 flags_from place zero a b = []
 flags_from place (suc n) a b = (place == a || place == b) ∷ flags_from (place + 1) n a b

@@ -6,7 +6,7 @@ use Rattle.ber_grammar.specs.Place.{Piece}
 abbrev pub IsPart : Piece → ℕ → Piece → Type 0
 IsPart whole place part = (part.block ≡ whole.block) × (part.place ≡ whole.place + place)
 
--- the first octets, and what is behind them
+-- the first octets, and what is after them
 abbrev pub front : ℕ → Piece → Piece
 front n whole = record { octets = take n whole.octets; block = whole.block; place = whole.place }
 

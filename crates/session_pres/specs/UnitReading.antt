@@ -10,7 +10,7 @@ use Rattle.session_pres.specs.Places.{behind}
 use Rattle.session_pres.specs.ParameterReading.{length_at, user_at}
 use Rattle.session_pres.specs.Units.{Seen, begins, connect, transfer, finish, abort}
 
--- what is behind a length that counts it all
+-- what is after a length that counts it all
 unfoldable pub counted_at : Piece → Option Piece
 counted_at input = and_then (length_at input.octets) (λ len. if length input.octets == len.1 + len.0 then Some (behind len.1 input) else None)
 

@@ -26,7 +26,7 @@ length_field n = if nat_lt n 255 then n ∷ [] else 255 ∷ n / 256 ∷ n % 256 
 unfoldable pub field : ℕ → List ℕ → List ℕ
 field code value = code ∷ (length_field (length value) ++ value)
 
--- DATA TRANSFER behind GIVE TOKENS
+-- DATA TRANSFER after GIVE TOKENS
 unfoldable pub data_spdu : ℕ → List ℕ → List ℕ
 data_spdu context pdu = (GIVE_TOKENS ∷ 0 ∷ DATA_TRANSFER ∷ 0 ∷ []) ++ user_octets context pdu
 

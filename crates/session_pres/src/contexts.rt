@@ -1,12 +1,14 @@
 //! The presentation contexts that a CP offers, and which are accepted (ISO 8823-1, "Presentation-context-definition-list").
 
-ghost use Rattle.std.specs.Prelude.{◌≡◌, ◌+◌, ◌==◌, ◌||◌, List, [], ◌++◌, Bool, bytes_eq, length, Option, Some, None, slice_get, IfSome, MatchOption};
+ghost use Rattle.std.specs.Prelude.{◌≡◌, ◌+◌, ◌==◌, ◌||◌, List, [], ◌++◌, Bool, bytes_eq, length};
+ghost use Rattle.std.specs.Prelude.{Option, Some, None, slice_get, IfSome, MatchOption};
 ghost use Rattle.std.specs.Option.{option_map};
 ghost use Rattle.ber_grammar.specs.Place.{piece, content_piece};
 ghost use Rattle.ber_view.specs.View.{spot};
 ghost use Rattle.ber_grammar.specs.Fields.{fields_in};
 ghost use Rattle.session_pres.specs.ContextList.{Context, flags_from};
-ghost use Rattle.session_pres.specs.ContextReading.{has_ber, context_fields_at, definition_at, chosen_of, offered, context_list_at};
+ghost use Rattle.session_pres.specs.ContextReading.{has_ber, context_fields_at, definition_at};
+ghost use Rattle.session_pres.specs.ContextReading.{chosen_of, offered, context_list_at};
 ghost use Rattle.session_pres.specs.ViewOfContexts.{context, candidate, offer, chosen, if_first};
 
 use crate::codes::{INTEGER, OBJECT_IDENTIFIER, SEQUENCE};
@@ -102,7 +104,8 @@ fn earlier<'a>(
     found: Option<Candidate<'a>>,
     next: Candidate<'a>,
 ) -> Option<Candidate<'a>>
-    ensures { option_map candidate result ≡ if_first syntax.now (option_map candidate found.entry) (candidate next.entry) }
+    ensures { option_map candidate result ≡ if_first syntax.now (option_map candidate found.entry)
+        (candidate next.entry) }
 {
     if found.is_some() {
         return found;
@@ -152,7 +155,7 @@ impl Contexts {
     ghost use Rattle.std.specs.Prelude.{◌≡◌, ◌==◌, length, slice_get};
     ghost use Rattle.session_pres.specs.ContextList.{flags_from};
 
-    /// So many contexts, of which those at two places are accepted.
+    /// This many contexts, of which those at two places are accepted.
     pub fn accepting(count: usize, acse: usize, mms: usize) -> Self
         ensures { result ≡ flags_from 0 count acse mms }
     {
@@ -173,7 +176,7 @@ impl Contexts {
         self.count == 0
     }
 
-    /// Whether the context at `place`, from 0, is accepted; none behind the last.
+    /// Whether the context at `place`, from 0, is accepted; none after the last.
     pub fn get(&self, place: usize) -> Option<bool>
         ensures { result ≡ slice_get self.now place }
     {

@@ -1,9 +1,11 @@
 //! The parameters of an SPDU (ISO 8327-1, "Structure of SPDUs").
 
-ghost use Rattle.std.specs.Prelude.{◌≡◌, ◌≤◌, ◌+◌, ◌==◌, length, is_some, Option, Some, None, IfSome, MatchOption};
+ghost use Rattle.std.specs.Prelude.{◌≡◌, ◌≤◌, ◌+◌, ◌==◌, length, is_some, Option, Some, None};
+ghost use Rattle.std.specs.Prelude.{IfSome, MatchOption};
 ghost use Rattle.std.specs.Option.{option_map};
 ghost use Rattle.ber_grammar.specs.Place.{piece};
-ghost use Rattle.session_pres.specs.ParameterReading.{length_at, head_at, parameter_at, parameters_at, is_cut, if_user, user_at};
+ghost use Rattle.session_pres.specs.ParameterReading.{length_at, head_at, parameter_at};
+ghost use Rattle.session_pres.specs.ParameterReading.{parameters_at, is_cut, if_user, user_at};
 ghost use Rattle.session_pres.specs.View.{parameter, parameter_of};
 
 use crate::codes::{CONNECT_ACCEPT_ITEM, USER_DATA};
@@ -80,7 +82,8 @@ impl<'a> Parameters<'a> {
 
     /// The code and the value of the next one, or none where it isn't whole.
     fn next(&mut self) -> Option<(u8, &'a [u8])>
-        ensures { MatchOption result (parameter_at self.old ≡ None) (λ x. parameter_at self.old ≡ Some (parameter_of x.0 (piece x.1), self.new)) }
+        ensures { MatchOption result (parameter_at self.old ≡ None) (λ x. parameter_at self.old
+            ≡ Some (parameter_of x.0 (piece x.1), self.new)) }
     {
         let (code, value, after) = first_parameter(self.rest)?;
         self.rest = after;
@@ -110,7 +113,8 @@ fn is_cut(code: u8, value: &[u8]) -> bool
 
 /// The user data, with one parameter more.
 fn later<'a>(code: u8, value: &'a [u8], user: Option<&'a [u8]>) -> Option<&'a [u8]>
-    ensures { option_map piece result ≡ if_user (parameter_of code (piece value.entry)) (option_map piece user.entry) }
+    ensures { option_map piece result ≡ if_user (parameter_of code (piece value.entry))
+        (option_map piece user.entry) }
 {
     if code == USER_DATA { Some(value) } else { user }
 }

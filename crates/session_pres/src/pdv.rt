@@ -7,7 +7,8 @@ ghost use Rattle.ber_grammar.specs.Reader.{Gives, Reads};
 ghost use Rattle.ber_view.specs.View.{spot};
 ghost use Rattle.session_pres.specs.declared.fault.SpFault.TheVariants as faults;
 ghost use Rattle.ber_grammar.specs.Steps.{IsLacking, required};
-ghost use Rattle.session_pres.specs.UserData.{IsUserData, context_at, pair_at, pdv_at, pdv_list_at, user_data_at};
+ghost use Rattle.session_pres.specs.UserData.{IsUserData, context_at, pair_at, pdv_at, pdv_list_at};
+ghost use Rattle.session_pres.specs.UserData.{user_data_at};
 ghost use Rattle.session_pres.specs.View.{pdv};
 ghost use Rattle.session_pres.specs.Plain.{pdv_now, pdv_from};
 
@@ -39,7 +40,7 @@ fn pair_of<'a>(number: &Tlv<'a>, value: &Tlv<'a>) -> Option<(u32, &'a [u8])>
     Some((context, value.content))
 }
 
-/// The context and the value of a PDV, behind a transfer syntax that may be there.
+/// The context and the value of a PDV, after a transfer syntax that may be there.
 fn pdv_of<'a>(mut fields: Elements<'a>) -> Option<(u32, &'a [u8])>
     ensures { option_map pdv result ≡ pdv_at fields.entry }
 {
@@ -71,7 +72,8 @@ fn user_data_of(octets: &[u8]) -> Option<(u32, &[u8])>
 }
 
 fn data_of(octets: &[u8]) -> Result<(u32, &[u8]), SpFault>
-    ensures { Gives {Y = ℕ × Piece} pdv result (required faults.Pdv (user_data_at (piece octets.entry))) }
+    ensures { Gives {Y = ℕ × Piece} pdv result
+        (required faults.Pdv (user_data_at (piece octets.entry))) }
 {
     user_data_of(octets).ok_or(SpFault::Pdv)
 }
@@ -82,8 +84,10 @@ fn data_of(octets: &[u8]) -> Result<(u32, &[u8]), SpFault>
 ///
 /// Fails with `Pdv` where the octets are of another form.
 pub fn read_data(octets: &[u8]) -> Result<(u32, &[u8]), SpFault>
-    ensures reads { Reads {Y = ℕ × Piece} pdv result (IsUserData (piece octets.entry)) (IsLacking faults.Pdv (IsUserData (piece octets.entry))) }
-    ensures exact { Gives {Y = ℕ × Piece} pdv result (required faults.Pdv (user_data_at (piece octets.entry))) }
+    ensures reads { Reads {Y = ℕ × Piece} pdv result (IsUserData (piece octets.entry))
+        (IsLacking faults.Pdv (IsUserData (piece octets.entry))) }
+    ensures exact { Gives {Y = ℕ × Piece} pdv result
+        (required faults.Pdv (user_data_at (piece octets.entry))) }
     ensures plain { Gives {Y = ℕ × List ℕ} pdv_now result (pdv_from octets.now) }
 {
     data_of(octets)

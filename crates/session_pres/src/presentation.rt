@@ -1,6 +1,7 @@
 //! The PPDUs that make a connection: CP and CPA (ISO 8823-1, "CP-type" and "CPA-PPDU").
 
-ghost use Rattle.std.specs.Prelude.{◌≡◌, ◌==◌, List, ℕ, Bool, Option, Some, None, bytes_eq, is_some};
+ghost use Rattle.std.specs.Prelude.{◌≡◌, ◌==◌, List, ℕ, Bool, Option, Some, None, bytes_eq};
+ghost use Rattle.std.specs.Prelude.{is_some};
 ghost use Rattle.std.specs.Option.{option_map};
 ghost use Rattle.ber_grammar.specs.Place.{Spot, Piece, piece};
 ghost use Rattle.ber_grammar.specs.Reader.{Gives, Reads, and_then};
@@ -8,7 +9,9 @@ ghost use Rattle.ber_view.specs.View.{spot};
 ghost use Rattle.ber_grammar.specs.Fields.{fields_in, first_with, field_with};
 ghost use Rattle.session_pres.specs.declared.codes.TheConstants.{MODE_SELECTOR, MODE_VALUE};
 ghost use Rattle.session_pres.specs.Presentation.{Request, IsCp, IsCpRefused, IsAc, IsAcRefused};
-ghost use Rattle.session_pres.specs.PresentationReading.{if_octets, normal_at, parameters_in, if_context, user_in, cp_at, accepted_at, cpa_at, ac_at};
+ghost use Rattle.session_pres.specs.PresentationReading.{if_octets, normal_at, parameters_in};
+ghost use Rattle.session_pres.specs.PresentationReading.{if_context, user_in, cp_at, accepted_at};
+ghost use Rattle.session_pres.specs.PresentationReading.{cpa_at, ac_at};
 ghost use Rattle.session_pres.specs.View.{request_of};
 ghost use Rattle.session_pres.specs.Plain.{asked_of, cp_from, ac_from};
 
@@ -48,7 +51,8 @@ fn has_octets(part: Option<&[u8]>, octets: &[u8]) -> bool
 
 /// The mode that the fields of a CP or a CPA say: the content of the first mode-value in the mode-selector.
 fn mode_of(set: Elements<'_>) -> Option<&[u8]>
-    ensures { option_map piece result ≡ and_then (first_with MODE_SELECTOR set.entry) (field_with MODE_VALUE) }
+    ensures { option_map piece result ≡ and_then (first_with MODE_SELECTOR set.entry)
+        (field_with MODE_VALUE) }
 {
     first_with(first_of(set, MODE_SELECTOR)?, MODE_VALUE)
 }
@@ -68,7 +72,8 @@ fn parameters_of(ppdu: &[u8]) -> Result<&[u8], SpFault>
 
 /// The value of a PDV, if it stands in this context.
 fn value_in(context: u32, pdv: Option<(u32, &[u8])>) -> Option<&[u8]>
-    ensures { option_map piece result ≡ if_context context (option_map (λ x. (x.0, piece x.1)) pdv.entry) }
+    ensures { option_map piece result ≡ if_context context
+        (option_map (λ x. (x.0, piece x.1)) pdv.entry) }
 {
     match pdv {
         Some((number, value)) if number == context => Some(value),
@@ -79,7 +84,8 @@ fn value_in(context: u32, pdv: Option<(u32, &[u8])>) -> Option<&[u8]>
 /// The user data among the parameters, if they stand in this context.
 #[tactic(auto, unfolding(crate::specs::PresentationReading::user_in, ber_grammar::specs::Fields::field_with))]
 fn user_of(context: u32, parameters: &[u8]) -> Option<&[u8]>
-    ensures { option_map piece result ≡ and_then (fields_in (piece parameters.entry)) (λ fields. user_in fields context) }
+    ensures { option_map piece result ≡ and_then (fields_in (piece parameters.entry))
+        (λ fields. user_in fields context) }
 {
     let values = first_with(parameters, FULLY_ENCODED_DATA)?;
     value_in(context, pdv_list_of(values))
@@ -113,7 +119,8 @@ fn cp_of(ppdu: &[u8]) -> Result<Cp<'_>, SpFault>
 /// there are none of them, or no context of ACSE, or BER isn't one of its transfer syntaxes, `NoMmsContext` where it is so
 /// with the context of MMS, and `Pdv` where the user data aren't one PDV of the context of ACSE.
 pub fn read_cp(ppdu: &[u8]) -> Result<Cp<'_>, SpFault>
-    ensures reads { Reads request_of result (IsCp (piece ppdu.entry)) (IsCpRefused (piece ppdu.entry)) }
+    ensures reads { Reads request_of result (IsCp (piece ppdu.entry))
+        (IsCpRefused (piece ppdu.entry)) }
     ensures exact { Gives request_of result (cp_at (piece ppdu.entry)) }
     ensures plain { Gives asked_of result (cp_from ppdu.now) }
 {

@@ -5,7 +5,8 @@ ghost use Rattle.std.specs.Option.{option_map};
 ghost use Rattle.ber_grammar.specs.Place.{piece};
 ghost use Rattle.ber_grammar.specs.Reader.{Gives, Reads};
 ghost use Rattle.session_pres.specs.Units.{begins, IsSpdu, IsSpduRefused, HasUser, IsUserRefused};
-ghost use Rattle.session_pres.specs.UnitReading.{counted_at, unit_at, user_of, data_of, transfer_at, spdu_at};
+ghost use Rattle.session_pres.specs.UnitReading.{counted_at, unit_at, user_of, data_of};
+ghost use Rattle.session_pres.specs.UnitReading.{transfer_at, spdu_at};
 ghost use Rattle.session_pres.specs.View.{seen};
 ghost use Rattle.session_pres.specs.Plain.{brought, user_now, spdu_from, dn_from};
 
@@ -18,7 +19,7 @@ use crate::parameters::{length_of, user_data};
 pub enum Spdu<'a> {
     /// A CONNECT, with its user data.
     Connect(&'a [u8]),
-    /// User data, behind an empty GIVE TOKENS and an empty DATA TRANSFER.
+    /// User data, after an empty GIVE TOKENS and an empty DATA TRANSFER.
     Data(&'a [u8]),
     /// A FINISH, with the user data that it may have.
     Finish(Option<&'a [u8]>),
@@ -36,7 +37,7 @@ fn has_code(code: u8, spdu: &[u8]) -> bool
     }
 }
 
-/// What is behind a length that counts all of it.
+/// What is after a length that counts all of it.
 #[tactic(auto, unfolding(crate::specs::UnitReading::counted_at))]
 fn counted(octets: &[u8]) -> Option<&[u8]>
     ensures { option_map piece result ≡ counted_at (piece octets.entry) }
@@ -78,7 +79,7 @@ pub fn connect_data_of(code: u8, spdu: &[u8]) -> Result<&[u8], SpFault>
     user_data_of(code, spdu)?.ok_or(SpFault::Parameter)
 }
 
-/// What is behind an empty GIVE TOKENS and an empty DATA TRANSFER.
+/// What is after an empty GIVE TOKENS and an empty DATA TRANSFER.
 #[tactic(auto, unfolding(crate::specs::UnitReading::transfer_at))]
 fn transferred(spdu: &[u8]) -> Option<Spdu<'_>>
     ensures { option_map seen result ≡ transfer_at (piece spdu.entry) }
@@ -110,11 +111,12 @@ fn spdu_of(spdu: &[u8]) -> Result<Spdu<'_>, SpFault>
 /// that are repeated the last count, and parameters of other codes are skipped, but cut.
 ///
 /// Fails with `Spdu` where the code is none of CONNECT, FINISH and ABORT, or the length isn't that of all that follows, or
-/// is in three octets where one does; user data stand behind `01 00 01 00` alone. Fails with `Parameter` where the
+/// is in three octets where one does; user data stand after `01 00 01 00` alone. Fails with `Parameter` where the
 /// parameters, those of a connect/accept item too, don't cut into whole ones, and where a CONNECT has no user data.
 pub fn read_spdu(spdu: &[u8]) -> Result<Spdu<'_>, SpFault>
     // What the octets spell, with the places of its parts, else the refusal that the octets earn.
-    ensures reads { Reads seen result (IsSpdu (piece spdu.entry)) (IsSpduRefused (piece spdu.entry)) }
+    ensures reads { Reads seen result (IsSpdu (piece spdu.entry))
+        (IsSpduRefused (piece spdu.entry)) }
     ensures exact { Gives seen result (spdu_at (piece spdu.entry)) }
     // The octets that it brings don't depend on where the input lies.
     ensures plain { Gives brought result (spdu_from spdu.now) }
@@ -127,8 +129,10 @@ pub fn read_spdu(spdu: &[u8]) -> Result<Spdu<'_>, SpFault>
 /// Fails with `Spdu` where it isn't a DISCONNECT, or the length isn't that of all that follows, and with `Parameter` where
 /// the parameters don't cut into whole ones.
 pub fn read_dn(spdu: &[u8]) -> Result<Option<&[u8]>, SpFault>
-    ensures reads { Reads (λ user. option_map piece user) result (HasUser DISCONNECT (piece spdu.entry)) (IsUserRefused DISCONNECT (piece spdu.entry)) }
-    ensures exact { Gives (λ user. option_map piece user) result (user_of DISCONNECT (piece spdu.entry)) }
+    ensures reads { Reads (λ user. option_map piece user) result
+        (HasUser DISCONNECT (piece spdu.entry)) (IsUserRefused DISCONNECT (piece spdu.entry)) }
+    ensures exact { Gives (λ user. option_map piece user) result
+        (user_of DISCONNECT (piece spdu.entry)) }
     ensures plain { Gives user_now result (dn_from spdu.now) }
 {
     user_data_of(DISCONNECT, spdu)

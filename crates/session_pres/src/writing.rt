@@ -3,9 +3,11 @@
 ghost use Rattle.std.specs.Prelude.{◌≡◌, ◌+◌, ◌<◌, ◌≤◌, ◌^◌, ◌++◌, length, OnOk, IfOk};
 ghost use Rattle.std.specs.List.{flat_map};
 ghost use Rattle.ber_write.specs.Minimal.{octets_of, uint_octets, element_size};
-ghost use Rattle.session_pres.specs.Written.{pdv_fields, pdv_list, user_octets, length_field, field, data_spdu, release_spdu, accept_parameters};
+ghost use Rattle.session_pres.specs.Written.{pdv_fields, pdv_list, user_octets, length_field};
+ghost use Rattle.session_pres.specs.Written.{field, data_spdu, release_spdu, accept_parameters};
 ghost use Rattle.session_pres.specs.Written.{accept_spdu, connect_item};
-ghost use Rattle.session_pres.specs.WrittenPpdu.{set_content, ppdu, result_octets, cpa_parameters, cpa_octets, cp_head, cp_octets};
+ghost use Rattle.session_pres.specs.WrittenPpdu.{set_content, ppdu, result_octets, cpa_parameters};
+ghost use Rattle.session_pres.specs.WrittenPpdu.{cpa_octets, cp_head, cp_octets};
 ghost use Rattle.session_pres.specs.WrittenPpdu.{connect_parameters, connect_spdu};
 
 use crate::codes::{
@@ -64,7 +66,7 @@ fn put_field(out: &mut Vec<u8>, code: u8, value: &[u8]) -> Result<(), AllocError
     out.extend_from_slice(value)
 }
 
-/// Octets in a new vector, and behind them user data of one PDV.
+/// Octets in a new vector, and after them user data of one PDV.
 fn with_user_data(
     alloc: Global,
     head: &[u8],
@@ -79,7 +81,7 @@ fn with_user_data(
     Ok(out)
 }
 
-/// Octets in a new vector, and behind them a code, the length of a value, and the value.
+/// Octets in a new vector, and after them a code, the length of a value, and the value.
 fn with_field(alloc: Global, head: &[u8], code: u8, value: &[u8]) -> Result<Vec<u8>, AllocError>
     requires { length value.now ≤ 65535 }
     ensures { IfOk result (λ v. v.items ≡ head.now ++ field code value.now) }

@@ -7,7 +7,7 @@ use Rattle.bay_model.specs.declared.tables.MemberShape.{MemberShape}
 use Rattle.bay_model.specs.declared.tables.NodeRow.{NodeRow}
 use Rattle.bay_model.specs.declared.tables.SetRow.{SetRow}
 
--- the nodes are among so many
+-- the nodes are among that many
 abbrev pub AreThere : ℕ → List NodeId → Type 0
 AreThere count nodes = All (λ (n : NodeId). n.0 < count) nodes
 

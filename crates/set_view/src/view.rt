@@ -30,7 +30,8 @@ impl<'a> Model for SetView<'a> {
 }
 
 impl<'a> SetView<'a> {
-    ghost use Rattle.std.specs.Prelude.{◌≡◌, ◌==◌, ◌<◌, length, slice_get, slice_index_or, option_copied};
+    ghost use Rattle.std.specs.Prelude.{◌≡◌, ◌==◌, ◌<◌, length, slice_get, slice_index_or};
+    ghost use Rattle.std.specs.Prelude.{option_copied};
     ghost use Rattle.set_view.specs.Shapes.{AreThere, no_shape, shapes_of};
 
     /// The members whose nodes have these numbers.

@@ -1,4 +1,4 @@
--- What the frame of a configuration tells of the setting groups: which attributes are among them, and in which domains.
+-- What the frame of a configuration says of the setting groups: which attributes are among them, and in which domains.
 use Rattle.std.proofs.Common.{◌≡◌, ◌≢◌, ◌≤◌, ◌<◌, ◌+◌, ℕ, zero, suc, Bool, true, false, List, [], ◌∷◌, ◌++◌, length, map, flat_map, refl, sym, ap, ap₂, subst, ◌∙◌, arith, Option, None, Some, is_some, slice_index_or, slice_get, unwrap_or, length-append, position, inl, inr, ◌⊎◌, true≢false}
 use Rattle.std.specs.Prelude.{◌==◌, ◌||◌, codes, nat_lt, if◌then◌else◌}
 use Rattle.std.specs.List.{All, find}
@@ -173,7 +173,7 @@ slice-behind (x ∷ xs) ys zero k e = absurd (omega (arith, e))
 slice-behind (x ∷ xs) ys (suc p) k e = slice-behind xs ys p k (omega (arith, e))
 
 module _ (c : Config) where
-  -- what stands behind the lines, and where the twins begin
+  -- what stands after the lines, and where the twins begin
   abbrev behind_lines : List Attr
   behind_lines = flat_map (attrs_generated c) c.controls ++ twins c 0 c.attrs
 
@@ -208,7 +208,7 @@ module _ (c : Config) where
     twins-same : length (twins c 0 c.attrs) ≡ length s.settings
     twins-same = omega (arith, twins-count c (domains c) 0 0 c.attrs, same-length frame s.settings (settings_from (domains c) 0 c.attrs) framed.settings)
 
-    -- the twins stand behind the lines and what controls generate, in the order of the settings
+    -- the twins stand after the lines and what controls generate, in the order of the settings
     pub settings-count : length (attributes c) ≡ length c.attrs + length (generated c) + length s.settings
     settings-count = omega (arith, length-append (attrs_defined c 0 c.attrs) behind_lines, length-append (flat_map (attrs_generated c) c.controls) (twins c 0 c.attrs), lines-count c 0 c.attrs, generated-count c c.controls, twins-same)
 

@@ -10,7 +10,7 @@ use std::marker::Model;
 use sv_base::{AssocNo, AttrId, Moment, Value};
 
 /// The setting group blocks of the domains by their numbers, and the values of the SG attributes in the order of their
-/// numbers, all in room that was made before: no call but those that open takes memory. Contracts see both lists.
+/// numbers, all in memory that was allocated before: no call but those that open takes memory. Contracts see both lists.
 #[derive(Debug, Drop)]
 pub struct Groups {
     pub(crate) domains: Vec<Domain>,
@@ -61,8 +61,11 @@ impl Groups {
     ghost use Rattle.std.specs.Prelude.{◌≡◌, ◌<◌, ◌==◌, OnOk, OnErr, length, true, if◌then◌else◌};
     ghost use Rattle.std.specs.Option.{option_map};
     ghost use Rattle.sv_base.specs.Kinds.{is_kind, is_in_range};
-    ghost use Rattle.setting_groups.specs.Grouped.{domain_at, setting_at, act_answer, edit_answer, copy_answer, stored_answer, number_in, is_on};
-    ghost use Rattle.setting_groups.specs.Grouped.{holds, edit_number, active_place, after_act, after_edit, after_copy, after_confirm, after_loss};
+    ghost use Rattle.setting_groups.specs.Grouped.{domain_at, setting_at, act_answer, edit_answer};
+    ghost use Rattle.setting_groups.specs.Grouped.{copy_answer, stored_answer, number_in, is_on};
+    ghost use Rattle.setting_groups.specs.Grouped.{holds, edit_number, active_place, after_act};
+    ghost use Rattle.setting_groups.specs.Grouped.{after_edit, after_copy, after_confirm};
+    ghost use Rattle.setting_groups.specs.Grouped.{after_loss};
     ghost use Rattle.setting_groups.specs.Grouped.{after_put, active_of, copy_of, shown_of};
 
     /// These blocks and settings. It takes no memory.
@@ -89,7 +92,8 @@ impl Groups {
     pub fn write_edit(&mut self, domain: u32, a: AssocNo, value: &Value) -> Result<(), u8>
         requires { domain < length self.old.domains }
         ensures answer { result ≡ edit_answer a.0 (domain_at self.old domain) value.now }
-        ensures set { OnOk result (self.new ≡ after_edit domain a.0 (number_in value.now) self.old) }
+        ensures set { OnOk result (self.new ≡ after_edit domain a.0
+            (number_in value.now) self.old) }
         ensures kept { OnErr result (self.new ≡ self.old) }
     {
         self.domains[domain as usize].write_edit(a, value)?;
@@ -105,7 +109,9 @@ impl Groups {
     pub fn write_se(&mut self, a: AssocNo, setting: usize, value: &Value) -> Result<(), u8>
         requires there { setting < length self.old.settings }
         requires domain { (setting_at self.old setting).domain < length self.old.domains }
-        ensures answer { result ≡ copy_answer (holds a.0 (domain_at self.old (setting_at self.old setting).domain)) (setting_at self.old setting) value.now }
+        ensures answer { result ≡ copy_answer
+            (holds a.0 (domain_at self.old (setting_at self.old setting).domain))
+            (setting_at self.old setting) value.now }
         ensures set { OnOk result (self.new ≡ after_copy setting value.now self.old) }
         ensures kept { OnErr result (self.new ≡ self.old) }
     {
@@ -120,7 +126,8 @@ impl Groups {
     pub fn confirm(&mut self, domain: u32, a: AssocNo, value: &Value) -> Result<bool, u8>
         requires { domain < length self.old.domains }
         ensures answer { result ≡ stored_answer a.0 (domain_at self.old domain) value.now }
-        ensures set { OnOk result (self.new ≡ (if is_on value.now then after_confirm domain self.old else self.old)) }
+        ensures set { OnOk result (self.new ≡ (if is_on value.now then after_confirm domain self.old
+            else self.old)) }
         ensures kept { OnErr result (self.new ≡ self.old) }
     {
         if !self.domains[domain as usize].confirms(a, value)? {

@@ -5,7 +5,8 @@ ghost use Rattle.std.specs.Option.{option_map_or};
 ghost use Rattle.bay_model.specs.ComponentTable.{setting_comp_kind};
 ghost use Rattle.bay_model.specs.Components.{utc_of as utc_at, no_utc};
 ghost use Rattle.sv_base.specs.Kinds.{is_kind};
-ghost use Rattle.bay_model.specs.declared.access_errors.TheConstants.{OBJECT_ACCESS_DENIED, TYPE_INCONSISTENT};
+ghost use Rattle.bay_model.specs.declared.access_errors.TheConstants.{OBJECT_ACCESS_DENIED};
+ghost use Rattle.bay_model.specs.declared.access_errors.TheConstants.{TYPE_INCONSISTENT};
 
 use crate::domain::Domain;
 use crate::groups::Groups;
@@ -41,7 +42,8 @@ fn time_of(moment: Option<Moment>) -> Utc
 
 /// Why a component that clients don't write refuses a value.
 fn refusal(part: SettingComp, value: &Value) -> u8
-    ensures { result ≡ (if is_kind (setting_comp_kind part) value.now then OBJECT_ACCESS_DENIED else TYPE_INCONSISTENT) }
+    ensures { result ≡ (if is_kind (setting_comp_kind part) value.now then OBJECT_ACCESS_DENIED
+        else TYPE_INCONSISTENT) }
 {
     match (part, value) {
         (SettingComp::NumOfSG | SettingComp::ActSG | SettingComp::EditSG, Value::Uint(_)) => {
@@ -102,7 +104,7 @@ impl Groups {
         }
     }
 
-    /// A client's write of a component of the block of a domain: tells whether the values of the domain's SG attributes are set by it,
+    /// A client's write of a component of the block of a domain: returns whether the values of the domain's SG attributes are set by it,
     /// as by ActSG, and by CnfEdit where the active group was edited. Refuses, in the order of each, with 7 a value of another kind,
     /// with 3 a component that isn't written, with 2 where another holds the edit or the association doesn't, and with 11 the number
     /// of no group. A refusal leaves all as it was.

@@ -25,7 +25,8 @@ impl Groups {
 
     /// The process sets an attribute: where it is an SG attribute the active group of its domain takes the value. It takes no memory.
     fn set(&mut self, setting: &Setting)
-        requires { (k : ℕ) → place_in setting.now.attr.0 self.old.settings ≡ Some k → IsPut self.old setting.now k }
+        requires { (k : ℕ) → place_in setting.now.attr.0 self.old.settings ≡ Some k
+            → IsPut self.old setting.now k }
         ensures { self.new ≡ after_setting setting.now self.old }
     {
         if let Some(at) = self.place(setting.attr) {

@@ -5,7 +5,7 @@ use bay_rooms::{Misfit, Slot};
 use std::marker::Model;
 use sv_base::{AttrId, Value};
 
-/// An SG attribute by its number and its domain, with its value in each group and in the edit copy, all in room that was
+/// An SG attribute by its number and its domain, with its value in each group and in the edit copy, all in memory that was
 /// made before.
 #[derive(Debug, Drop)]
 pub(crate) struct Setting {
@@ -28,7 +28,12 @@ impl Model for Setting {
 
     ghost coded = { Prim.hlevel (codes, row_code) };
 
-    ghost view = { λ s. record { attr = s.attr.0; domain = s.domain; groups = s.groups.items; copy = s.copy } };
+    ghost view = { λ s. record {
+      attr = s.attr.0;
+      domain = s.domain;
+      groups = s.groups.items;
+      copy = s.copy;
+    } };
 
     ghost invariant = { λ s. All (λ (h : Held). h.kind ≡ s.copy.kind) s.groups.items };
 }
@@ -43,7 +48,12 @@ impl Setting {
     /// The values of an SG attribute, all of one kind.
     pub fn new(attr: AttrId, domain: u32, groups: Vec<Slot>, copy: Slot) -> Setting
         requires { All (λ (h : Held). h.kind ≡ copy.kind) groups.items }
-        ensures { result ≡ record { attr = attr.0; domain = domain; groups = groups.items; copy = copy } }
+        ensures { result ≡ record {
+          attr = attr.0;
+          domain = domain;
+          groups = groups.items;
+          copy = copy;
+        } }
     {
         Setting {
             attr,

@@ -7,10 +7,15 @@ ghost use Rattle.sv_base.specs.Kinds.{kind_of};
 ghost use Rattle.sv_base.specs.Kinds.{is_kind, is_in_range};
 ghost use Rattle.bay_rooms.specs.Slots.{IsSettable};
 ghost use Rattle.name_leaves.specs.Attributes.{types_of};
-ghost use Rattle.step_fitting.specs.Fits.{is_visible as is_visible_octets, is_sound as is_sound_value, are_sound as are_sound_row};
-ghost use Rattle.step_fitting.specs.Fits.{name_fits as name_fits_in, target_fits as target_fits_in, write_fits as write_fits_in};
-ghost use Rattle.step_fitting.specs.Fits.{set_fits as set_fits_in, set_name_fits, service_fits as service_fits_in, setting_fits as setting_fits_in};
-ghost use Rattle.step_fitting.specs.Fits.{is_association as is_association_number, step_fits as step_fits_in};
+ghost use Rattle.step_fitting.specs.Fits.{is_visible as is_visible_octets};
+ghost use Rattle.step_fitting.specs.Fits.{is_sound as is_sound_value, are_sound as are_sound_row};
+ghost use Rattle.step_fitting.specs.Fits.{name_fits as name_fits_in, target_fits as target_fits_in};
+ghost use Rattle.step_fitting.specs.Fits.{write_fits as write_fits_in};
+ghost use Rattle.step_fitting.specs.Fits.{set_fits as set_fits_in, set_name_fits};
+ghost use Rattle.step_fitting.specs.Fits.{service_fits as service_fits_in};
+ghost use Rattle.step_fitting.specs.Fits.{setting_fits as setting_fits_in};
+ghost use Rattle.step_fitting.specs.Fits.{is_association as is_association_number};
+ghost use Rattle.step_fitting.specs.Fits.{step_fits as step_fits_in};
 
 use bay_model::{AttrRow, ObjName, Service, SetName, Setting, Step, Target, Write};
 use bay_rooms::{fits_int, fits_uint};
@@ -159,7 +164,8 @@ fn service_fits(counts: Counts, service: &Service) -> bool
 /// Whether a value is of an attribute's type, and of its size.
 fn is_typed(kind: &TypeOf, value: &Value) -> bool
     requires { IsSettable kind.now }
-    ensures { result ≡ (is_kind (kind_of kind.now) value.now && is_in_range (kind_of kind.now) value.now) }
+    ensures { result ≡ (is_kind (kind_of kind.now) value.now && is_in_range
+        (kind_of kind.now) value.now) }
 {
     match (kind, value) {
         (TypeOf::Bool, Value::Bool(_)) => true,
@@ -211,7 +217,7 @@ fn is_association(a: AssocNo) -> bool
     1 <= a.0 && a.0 <= 16
 }
 
-/// Whether a step fits what there is: so many nodes, blocks and controls, and attributes of these rows.
+/// Whether a step fits what there is: n nodes, blocks and controls, and attributes of these rows.
 pub fn step_fits(counts: Counts, rows: &[AttrRow], step: &Step) -> bool
     requires { All IsSettable (types_of rows.now) }
     ensures { result ≡ step_fits_in counts (types_of rows.now) step.now }

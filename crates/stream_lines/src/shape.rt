@@ -5,9 +5,9 @@ use osi_stack::Line;
 /// How an association is answered.
 #[derive(Clone, Copy, Debug, PartialEq, Eq)]
 pub enum Shape {
-    /// By lines that tell what it takes.
+    /// By lines that say what it takes.
     Direct,
-    /// By MMS PDUs (ISO 9506-2) of at most so many octets, 1024 to 65000.
+    /// By MMS PDUs (ISO 9506-2) of at most n octets, 1024 to 65000.
     Mms(u32),
     /// By MMS PDUs in frames on this line.
     Wire(Line),

@@ -6,7 +6,7 @@ use Rattle.sv_base.specs.declared.call_parts.CallPart.TheVariants.{CtlVal, OrCat
 use Rattle.sv_base.specs.declared.types.TypeOf.{TypeOf}
 use Rattle.sv_base.specs.declared.types.TypeOf.TheVariants as types
 
--- those of Cancel, in the order of its type; SBOw and Oper have Check behind them
+-- those of Cancel, in the order of its type; SBOw and Oper have Check after them
 abbrev pub cancel_parts : List CallPart
 cancel_parts = CtlVal ∷ OrCat ∷ OrIdent ∷ CtlNum ∷ T ∷ Test ∷ []
 

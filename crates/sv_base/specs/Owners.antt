@@ -1,7 +1,7 @@
 -- The octets of an address.
 use Rattle.std.specs.Prelude.{◌≡◌, ◌≤◌, ℕ, ◌-◌, List, length, take, ◌++◌, replicate}
 
--- so many of the 64 octets, of which the others are 0
+-- that many of the 64 octets, of which the others are 0
 pub record IsAddress (len : ℕ) (octets : List ℕ) : Type 0 where
   pub least : 1 ≤ len
   pub most : len ≤ 64

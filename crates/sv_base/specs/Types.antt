@@ -25,7 +25,7 @@ mutual
     no_field : Fields
     field : (name : List ℕ) → Shape → Fields → Fields
 
--- A row of values that gives the fields back, so that a proof can tell two of them apart: any row that does would serve.
+-- A row of values that gives the fields back, so that a proof can say two of them apart: any row that does would serve.
 abbrev pub plain_of_kind : Kind → tree.Plain
 plain_of_kind truth = tree.truth true
 plain_of_kind (int n) = tree.stamp 0 n

@@ -112,7 +112,8 @@ impl Comp {
 
 impl SettingComp {
     ghost use Rattle.std.specs.Prelude.{◌≡◌};
-    ghost use Rattle.sv_base.specs.ComponentTable.{setting_comp_name, setting_comp_named, setting_comp_type};
+    ghost use Rattle.sv_base.specs.ComponentTable.{setting_comp_name, setting_comp_named};
+    ghost use Rattle.sv_base.specs.ComponentTable.{setting_comp_type};
 
     /// All of them, in the order of the block's type.
     pub const ALL: [SettingComp; 5] = [

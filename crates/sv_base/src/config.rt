@@ -5,7 +5,7 @@ use crate::{
     SharedOcts, ShortOcts, TypeOf,
 };
 
-/// What a server is made of: the identity that it tells, and the objects of its domains (logical devices of IEC
+/// What a server is made of: the identity that it gives, and the objects of its domains (logical devices of IEC
 /// 61850-7-2). Each list is in the order of the configuration's lines.
 #[derive(Drop)]
 pub struct Config {

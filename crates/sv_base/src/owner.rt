@@ -72,7 +72,7 @@ impl Owner {
         Some(here(octets))
     }
 
-    /// The address of an association that tells none: its number in four octets, the greatest first.
+    /// The address of an association that says none: its number in four octets, the greatest first.
     pub fn of(a: AssocNo) -> Owner
         ensures { result ≡ to_be_bytes w32 a.0 }
     {

@@ -5,7 +5,7 @@ ghost use Rattle.std.specs.Prelude.{◌≡◌, ◌≤◌, length};
 use std::alloc::{AllocError, Global};
 use std::marker::Model;
 
-/// Where the octets stand: the first so many of these, or on the heap.
+/// Where the octets stand: the first that many of these, or on the heap.
 #[derive(Debug, Drop)]
 enum Held {
     Here(u8, [u8; 30]),

@@ -10,17 +10,17 @@ use std::sync::Arc;
 #[cycle(types)]
 pub enum TypeOf {
     Bool,
-    /// A signed number of so many bits: 8, 16, 32 or 64.
+    /// A signed number of n bits: 8, 16, 32 or 64.
     Int(u8),
-    /// An unsigned number of so many bits: 8, 16 or 32.
+    /// An unsigned number of n bits: 8, 16 or 32.
     Uint(u8),
-    /// So many truth values, 1 to 64.
+    /// This many truth values, 1 to 64.
     Bits(u16),
     Time,
     Stamp,
-    /// At most so many visible octets, 1 to 255.
+    /// At most n visible octets, 1 to 255.
     Text(u16),
-    /// At most so many octets, 1 to 255.
+    /// At most n octets, 1 to 255.
     Octets(u16),
     /// The eight octets of the component EntryID (IEC 61850-7-2, buffered report control block).
     EntryId,

@@ -13,13 +13,13 @@ reads octets buf copied start n e h =
     let front : take n (copied ++ buf) ≡ copied = ap (λ k. take k (copied ++ buf)) (sym len) ∙ take-append_seam copied buf in
     sym (rw (front, e, ← drop-drop n start octets) (take-append-drop n (drop start octets)))
 
--- a buffer that has room after the copying had it before
+-- a buffer that has capacity after the copying had it before
 pub room : (rest buf copied : List ℕ) (n : ℕ) → copied ≡ take n rest → n ≡ min (length rest) (length buf) → 0 < length (copied ++ drop n buf) → 0 < length buf
 room rest buf copied n e is h =
     let len : length copied ≡ n = ap length e ∙ rw length-take (omega arith) in
     omega (arith, rw (length-append copied (drop n buf), length-drop n buf) at h)
 
--- where nothing was read into a buffer that has room, nothing is left
+-- where nothing was read into a buffer that has capacity, nothing is left
 pub ended : (octets : List ℕ) (start n room : ℕ) → n ≡ min (length (drop start octets)) room → 0 < room → n ≡ 0 → drop (start + n) octets ≡ []
 ended octets start n room e h z = nil_from_length (drop (start + n) octets) (rw length-drop (omega (arith, rw length-drop at e)))
 

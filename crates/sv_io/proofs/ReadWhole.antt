@@ -8,7 +8,7 @@ use Rattle.std.proofs.Math.Seq.{take-append_seam}
 use Rattle.sv_io.specs.Taken.{TakesAtMost}
 use Rattle.sv_io.proofs.TakenLaws.{takes-more}
 
--- what was read so far: no more than so many octets
+-- what was read so far: no more than n octets
 pub record ReadSoFar (left now : Option (List ℕ)) (octets : List ℕ) (most : ℕ) : Type 0 where
   pub consumed : Consumes left now octets
   pub within : length octets ≤ most

@@ -2,6 +2,6 @@
 use Rattle.std.specs.Prelude.{◌≤◌, ℕ, length, List, Option}
 use Rattle.std.specs.Io.KnownBytes.{Consumes}
 
--- at most so many octets were taken from a source
+-- at most n octets were taken from a source
 abbrev pub TakesAtMost : ℕ → Option (List ℕ) → Option (List ℕ) → Type 0
 TakesAtMost most left now = (octets : List ℕ) × (length octets ≤ most) × Consumes left now octets

@@ -9,7 +9,7 @@ use sv_base::Moment;
 /// How long a rest is that nobody ends, in milliseconds: buffer times and integrity periods pass without a bell.
 const REST: u64 = 50;
 
-/// A clock of one association, which tells the moment of another clock. Whoever stirs it ends a rest that has begun, and the next one
+/// A clock of one association, which gives the moment of another clock. Whoever stirs it ends a rest that has begun, and the next one
 /// where none has: so a thread that writes what an association waits for rests while there is nothing to write.
 #[derive(Drop)]
 pub struct BellClock<'a, R, C> {

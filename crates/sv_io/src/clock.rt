@@ -4,7 +4,7 @@ ghost use Rattle.std.specs.Prelude.{◌≡◌, ℕ, Option, Some, IfSome};
 
 use sv_base::Moment;
 
-/// What tells the moment, and lets a thread that has nothing to do rest.
+/// What says the moment, and lets a thread that has nothing to do rest.
 pub trait Clock {
     /// The moment that every `now` gives, where it is told.
     ghost moment: { Self → Option ℕ };

@@ -2,7 +2,7 @@
 
 /// A place that a thread passes between what it does, so that another may say when it goes on. No contract says when that is.
 pub trait Gate: Send + Drop {
-    /// Passes, once so many deeds were done. It may wait.
+    /// Passes, once n deeds were done. It may wait.
     fn pass(&mut self, count: u64);
 }
 

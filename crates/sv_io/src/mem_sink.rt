@@ -24,7 +24,13 @@ impl Model for MemSink {
 
     ghost Value = { Writing };
 
-    ghost view = { λ s. record { taken = s.octets.items; fails = s.fails; calls = s.calls; faults = s.faults; wants = s.wants } };
+    ghost view = { λ s. record {
+      taken = s.octets.items;
+      fails = s.fails;
+      calls = s.calls;
+      faults = s.faults;
+      wants = s.wants;
+    } };
 }
 
 impl MemSink {
@@ -71,7 +77,10 @@ impl MemSink {
 
     /// A write fails.
     pub(crate) fn fail(&mut self)
-        ensures counts { self.new ≡ record self.old { calls = counted self.old.calls; faults = counted self.old.faults } }
+        ensures counts { self.new ≡ record self.old {
+          calls = counted self.old.calls;
+          faults = counted self.old.faults;
+        } }
         ensures later { self.old.faults ≤ self.new.faults }
         ensures rose { Rose self.old.faults self.new.faults }
     {
@@ -87,15 +96,19 @@ impl Sink for MemSink {
 
     fn write_all(&mut self, piece: &[u8]) -> Result<(), Failed>
         ensures ok { OnOk result (Appends (Some self.old.taken) (Some self.new.taken) piece.now) }
-        ensures err { OnErr result (GrowsByFront (Some self.old.taken) (Some self.new.taken) piece.now) }
+        ensures err { OnErr result (GrowsByFront (Some self.old.taken)
+            (Some self.new.taken) piece.now) }
         ensures cause { HasCause self.old.faults self.new.faults result }
-        ensures listed { Contains self.old.fails (counted self.old.calls) → IsErr result × (self.new.wants ≡ self.old.wants) }
-        ensures unlisted { OnErr result (Contains self.old.fails (counted self.old.calls) ⊎ Rose self.old.wants self.new.wants) }
+        ensures listed { Contains self.old.fails (counted self.old.calls)
+            → IsErr result × (self.new.wants ≡ self.old.wants) }
+        ensures unlisted { OnErr result (Contains self.old.fails (counted self.old.calls)
+            ⊎ Rose self.old.wants self.new.wants) }
         ensures none_taken { OnErr result (self.new.taken ≡ self.old.taken) }
         ensures calls { self.new.calls ≡ counted self.old.calls }
         ensures fails { self.new.fails ≡ self.old.fails }
         ensures fault { OnErr result (self.new.faults ≡ counted self.old.faults) }
-        ensures no_fault { OnOk result ((self.new.faults ≡ self.old.faults) × (self.new.wants ≡ self.old.wants)) }
+        ensures no_fault { OnOk result ((self.new.faults ≡ self.old.faults)
+            × (self.new.wants ≡ self.old.wants)) }
     {
         self.calls = self.calls.saturating_add(1);
         if self.fails.contains(self.calls) {

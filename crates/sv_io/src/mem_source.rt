@@ -1,5 +1,6 @@
 //! A source in memory, whose listed reads fail.
-ghost use Rattle.std.specs.Prelude.{◌≡◌, ◌≤◌, ◌↔◌, Some, min, length, Contains, IfOk, OnErr, OnOk, IsErr};
+ghost use Rattle.std.specs.Prelude.{◌≡◌, ◌≤◌, ◌↔◌, Some, min, length, Contains, IfOk, OnErr, OnOk};
+ghost use Rattle.std.specs.Prelude.{IsErr};
 ghost use Rattle.std.specs.Io.{ReadsAtMost};
 ghost use Rattle.std.specs.Io.KnownBytes.{ReadConsumes};
 ghost use Rattle.sv_io.specs.Causes.{counted, Rose, HasCause};
@@ -10,7 +11,7 @@ use std::marker::Model;
 use sv_base::Octs;
 
 /// Octets in memory. The reads whose numbers are listed fail, and give and lose nothing; every other read gives as
-/// many octets as are left and have room.
+/// many octets as are left and have capacity.
 #[derive(Debug, Drop)]
 pub struct MemSource {
     octets: Octs,
@@ -26,7 +27,12 @@ impl Model for MemSource {
 
     ghost Value = { Reading };
 
-    ghost view = { λ s. record { left = drop s.at s.octets; fails = s.fails; calls = s.calls; faults = s.faults } };
+    ghost view = { λ s. record {
+      left = drop s.at s.octets;
+      fails = s.fails;
+      calls = s.calls;
+      faults = s.faults;
+    } };
 
     ghost invariant = { λ s. s.at ≤ length s.octets };
 }
@@ -69,7 +75,10 @@ impl MemSource {
 
     /// A read fails.
     pub(crate) fn fail(&mut self)
-        ensures counts { self.new ≡ record self.old { calls = counted self.old.calls; faults = counted self.old.faults } }
+        ensures counts { self.new ≡ record self.old {
+          calls = counted self.old.calls;
+          faults = counted self.old.faults;
+        } }
         ensures later { self.old.faults ≤ self.new.faults }
         ensures rose { Rose self.old.faults self.new.faults }
     {

@@ -6,7 +6,7 @@ ghost use Rattle.std.specs.Io.KnownBytes.{ReadConsumes, WriteAppends, Keeps};
 use crate::traits::{Failed, Sink, Source};
 use std::io::{Error, ErrorKind, Read, Write};
 
-/// How many calls in a row a signal may interrupt; after so many the call has failed.
+/// How many calls in a row a signal may interrupt; after n the call has failed.
 const TRIES: u32 = 1000;
 
 /// A signal came before the call had done anything.

@@ -16,7 +16,7 @@ pub enum Unread {
     Read,
 }
 
-/// Reads a source to its end, and no more than so many octets of it.
+/// Reads a source to its end, and no more than n octets of it.
 pub fn read_whole<S: Source>(alloc: Global, source: &mut S, most: usize) -> Result<Vec<u8>, Unread>
     ensures whole { IfOk result (λ v. IfSome (S.left source.old) (λ b. v.items ≡ take most b)) }
     ensures few { IfOk result (λ v. length v.items ≤ most) }

@@ -11,7 +11,7 @@ const REST: u64 = 1;
 /// The greatest moment, in milliseconds since 1970.
 const LAST: u64 = 4294967295999;
 
-/// The clock of the system. It tells the moment in milliseconds since 1970, within the range of moments, and the least moment where it
+/// The clock of the system. It gives the moment in milliseconds since 1970, within the range of moments, and the least moment where it
 /// can't be read.
 #[derive(Drop)]
 pub struct SystemClock<'a, R> {
@@ -25,7 +25,7 @@ impl<'a, R> SystemClock<'a, R> {
     }
 }
 
-/// The moment of so many milliseconds since 1970, or the nearest one.
+/// The moment of n milliseconds since 1970, or the nearest one.
 fn nearest(ms: u128) -> Moment {
     let ms = u64::try_from(ms).unwrap_or(u64::MAX);
     Moment::new(ms.min(LAST)).unwrap_or(Moment::first())

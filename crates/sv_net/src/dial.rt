@@ -35,7 +35,8 @@ impl<'a, R> TcpDial<'a, R> {
     fn read_open(&mut self, buf: &mut [u8]) -> Result<usize, Failed>
         requires { 0 < length buf.old }
         ensures bound { ReadsAtMost result buf.new }
-        ensures kept { (self.new.reads ≡ self.old.reads) × (self.new.writes ≡ self.old.writes) × (self.new.dials ≡ self.old.dials) }
+        ensures kept { (self.new.reads ≡ self.old.reads) × (self.new.writes ≡ self.old.writes)
+            × (self.new.dials ≡ self.old.dials) }
     {
         match &mut self.ends {
             Some((source, _)) => source.read(buf),
@@ -44,7 +45,8 @@ impl<'a, R> TcpDial<'a, R> {
     }
 
     fn write_open(&mut self, piece: &[u8]) -> Result<(), Failed>
-        ensures kept { (self.new.reads ≡ self.old.reads) × (self.new.writes ≡ self.old.writes) × (self.new.dials ≡ self.old.dials) }
+        ensures kept { (self.new.reads ≡ self.old.reads) × (self.new.writes ≡ self.old.writes)
+            × (self.new.dials ≡ self.old.dials) }
     {
         match &mut self.ends {
             Some((_, sink)) => sink.write_all(piece),
@@ -55,7 +57,8 @@ impl<'a, R> TcpDial<'a, R> {
 
 impl<'a, R: Net<Stream = TcpStream>> TcpDial<'a, R> {
     fn open(&mut self, address: &str) -> Result<(), Failed>
-        ensures kept { (self.new.reads ≡ self.old.reads) × (self.new.writes ≡ self.old.writes) × (self.new.dials ≡ self.old.dials) }
+        ensures kept { (self.new.reads ≡ self.old.reads) × (self.new.writes ≡ self.old.writes)
+            × (self.new.dials ≡ self.old.dials) }
     {
         self.ends = None;
         let Ok(stream) = TcpStream::connect(self.rt, address) else {

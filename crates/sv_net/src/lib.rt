@@ -1,6 +1,6 @@
 //! The ends of the server outside: connections of TCP, files by their names, and the clock of the system.
 //!
-//! None of them tells its octets: what contracts say of them is that a call answers `Failed` only where its count of faults rose.
+//! None of them gives its octets away: what contracts say of them is that a call answers `Failed` only where its count of faults rose.
 #![tactic(auto)]
 
 mod clock;

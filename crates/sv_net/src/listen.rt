@@ -18,7 +18,7 @@ const PAUSE: u64 = 100;
 enum Refused {
     /// Nothing: the next one may go well.
     Again,
-    /// A descriptor or memory is wanting, which an ended connection gives back.
+    /// A descriptor or memory is lacking, which an ended connection gives back.
     Later,
     /// It accepts nothing any more.
     Ended,
@@ -27,7 +27,7 @@ enum Refused {
 /// The errors of a system that wants descriptors or buffers (POSIX.1, EMFILE, ENFILE and ENOBUFS, as Linux numbers them).
 const WANTING: [i32; 3] = [24, 23, 105];
 
-/// Descriptors, buffers or memory are wanting.
+/// Descriptors, buffers or memory are lacking.
 fn is_wanting(error: &Error) -> bool {
     match error.raw_os_error() {
         Some(code) => WANTING.contains(&code),
@@ -48,7 +48,7 @@ fn refusal_of(error: &Error) -> Refused {
 }
 
 /// A listening socket of TCP, which is bound at the first accept. An accept that a signal interrupted, or of a connection that its peer
-/// gave up, is made again, and after a pause one for which descriptors are wanting.
+/// gave up, is made again, and after a pause one for which descriptors are lacking.
 #[derive(Drop)]
 pub struct TcpListen<'a, R: Net> {
     rt: &'a R,
@@ -74,7 +74,8 @@ impl<'a, R: Net<Stream = TcpStream, Listener = TcpListener> + Wait + time::Clock
 
     /// Binds the socket where it isn't bound yet.
     fn bind(&mut self) -> Result<(), Failed>
-        ensures kept { (self.new.faults ≡ self.old.faults) × (self.new.accepted ≡ self.old.accepted) }
+        ensures kept { (self.new.faults ≡ self.old.faults)
+            × (self.new.accepted ≡ self.old.accepted) }
     {
         if self.listener.is_some() {
             return Ok(());
@@ -108,7 +109,8 @@ impl<'a, R: Net<Stream = TcpStream, Listener = TcpListener> + Wait + time::Clock
 
     /// The ends of the next connection.
     fn next(&mut self) -> Result<(TcpIn, TcpOut), Failed>
-        ensures kept { (self.new.faults ≡ self.old.faults) × (self.new.accepted ≡ self.old.accepted) }
+        ensures kept { (self.new.faults ≡ self.old.faults)
+            × (self.new.accepted ≡ self.old.accepted) }
     {
         self.bind()?;
         let stream = self.wait()?;

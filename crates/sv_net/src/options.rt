@@ -10,16 +10,16 @@ use std::os::fd::AsRawFd;
 /// The level of the options of TCP (IPPROTO_TCP).
 const TCP: i32 = 6;
 
-/// After so many seconds without a word a peer is asked whether it is there (RFC 9293, keep-alives).
+/// After n seconds without a word a peer is asked whether it is there (RFC 9293, keep-alives).
 const IDLE: i32 = 30;
 
-/// After so many seconds without an answer it is asked again.
+/// After n seconds without an answer it is asked again.
 const INTERVAL: i32 = 10;
 
-/// After so many questions without an answer the connection is lost.
+/// After n questions without an answer the connection is lost.
 const COUNT: i32 = 3;
 
-/// After so many milliseconds in which nothing that was sent was acknowledged the connection is lost (RFC 5482).
+/// After n milliseconds in which nothing that was sent was acknowledged the connection is lost (RFC 5482).
 const UNACKNOWLEDGED: i32 = 60000;
 
 /// The octets of an option's value.

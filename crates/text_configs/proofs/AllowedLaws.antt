@@ -141,7 +141,7 @@ module _ (c : Config) (told : IsTold c) where
     known : is_fc fc ≡ true
     known = known-of fc constrained
 
-    -- it goes on behind a logical node
+    -- it goes on after a logical node
     whole : p.item ≡ ln ++ 36 ∷ behind
     whole = by (split-at p.item) where
       by : (p.item ≡ first p.item ++ 36 ∷ rest p.item) ⊎ (p.item ≡ first p.item) → p.item ≡ ln ++ 36 ∷ behind

@@ -1,4 +1,4 @@
--- What a text tells of its attributes: each by itself, and that none stands at or above another's reference.
+-- What a text says of its attributes: each by itself, and that none stands at or above another's reference.
 use Rattle.std.proofs.Common.{◌≡◌, ℕ, ◌≤◌, ◌⊎◌, ◌||◌, inl, inr, Bool, true, false, List, [], ◌∷◌, ◌++◌, length, refl, sym, ap, subst, ◌∙◌, arith, true≢false}
 use Rattle.std.specs.List.{count_by}
 use Rattle.std.specs.Str.{bytes_eq}

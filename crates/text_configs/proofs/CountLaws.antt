@@ -110,7 +110,7 @@ module _ (c : Config) (told : IsTold c) where
   reference-plain a i n (inr (inl e)) = subst NoDollar (sym e) (fc-plain a.fc (told.attrs a i).constraint).1
   reference-plain a i n (inr (inr j)) = (of-each IsPlain _ n (path-plain a.path (told.attrs a i).path.0) j).1
 
-  -- what is known of a front and a name behind it
+  -- what is known of a front and a name after it
   behind : (q : List (List ℕ)) (name : List ℕ) (more : List (List ℕ)) (a : AttrDef) → 0 < length q → q ++ name ∷ more ≡ reference_names a → key_of a ≡ joined q ++ 36 ∷ joined (name ∷ more)
   behind q name more a some e = key-joined a ∙ (ap joined (sym e) ∙ joined-behind q name more some)
 

@@ -1,4 +1,4 @@
--- What a text tells of its setting groups, and of its attributes, which under SG have a value for each group.
+-- What a text says of its setting groups, and of its attributes, which under SG have a value for each group.
 use Rattle.std.proofs.Common.{◌≡◌, ℕ, zero, suc, ◌+◌, ◌-◌, ◌<◌, ◌≤◌, ◌⊎◌, inl, inr, Bool, true, false, List, [], ◌∷◌, ◌++◌, length, is_some, refl, sym, ap, subst, ◌∙◌, arith, true≢false, length-append, cond, None, Some, unwrap_or, if◌then◌else◌}
 use Rattle.std.specs.Prelude.{codes, position, slice_get, slice_index_or}
 use Rattle.std.specs.Option.{option_map, option_or}
@@ -105,7 +105,7 @@ none-before told d new = none-of d (config_of told).groups (λ g i. by g i (is-o
     by g i false is = refl
     by g i true is = absurd (true≢false (sym (taken g i is) ∙ new))
 
--- the domain has so many groups
+-- the domain has n groups
 abbrev Have : Config → List ℕ → ℕ → Type 0
 Have c d n = (g : SgDef) × (find (is-of d) c.groups ≡ Some g) × (g.count ≡ n)
 

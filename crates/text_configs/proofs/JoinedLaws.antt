@@ -1,4 +1,4 @@
--- Names that are joined by `$`: the first of them, those behind it, and the names that a path is made of.
+-- Names that are joined by `$`: the first of them, those after it, and the names that a path is made of.
 use Rattle.std.proofs.Common.{◌≡◌, ℕ, suc, ◌+◌, ◌<◌, ◌≤◌, ◌==◌, ◌⊎◌, inl, inr, true, false, cond, not, List, [], ◌∷◌, ◌++◌, length, take, drop, refl, sym, ap, ap₂, subst, ◌∙◌, arith, length-append, append_assoc}
 use Rattle.std.specs.List.{before_first, after_first, position_or_len, join_with_byte}
 use Rattle.std.proofs.lemmas.Bool.Decides.{eqb_tells}
@@ -61,7 +61,7 @@ pub joined-some : (name : List ℕ) (names : List (List ℕ)) → 0 < length nam
 joined-some name [] h = h
 joined-some name (next ∷ names) h = omega (arith, h, length-append name (36 ∷ joined (next ∷ names)))
 
--- names behind others
+-- names after others
 pub joined-behind : (fore : List (List ℕ)) (name : List ℕ) (names : List (List ℕ)) → 0 < length fore → joined (fore ++ name ∷ names) ≡ joined fore ++ 36 ∷ joined (name ∷ names)
 joined-behind [] name names h = absurd (omega (arith, h))
 joined-behind (a ∷ []) name names h = refl
@@ -84,7 +84,7 @@ same-joined (a ∷ as_) (b ∷ bs) h k e =
     let tail : as_ ≡ bs = same-joined as_ bs h.1 k.1 (sym (rest-joined a as_ h.0.1) ∙ (ap rest e ∙ rest-joined b bs k.0.1)) in
     ap (λ x. x ∷ as_) head ∙ ap (λ l. b ∷ l) tail
 
--- an item goes on behind its first name, or is that
+-- an item goes on after its first name, or is that
 pub split-at : (item : List ℕ) → (item ≡ first item ++ 36 ∷ rest item) ⊎ (item ≡ first item)
 split-at [] = inr refl
 split-at (o ∷ os) = by (eqb_tells o 36) (split-at os) where

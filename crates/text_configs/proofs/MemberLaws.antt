@@ -22,7 +22,7 @@ use Rattle.list_laws.proofs.Among.{Among, At, of-each, all-of, at-within, at-ind
 use Rattle.text_configs.proofs.JoinedLaws.{rest}
 use Rattle.text_configs.proofs.FormLaws.{IsFormed}
 
--- ---- the nodes one behind another
+-- ---- the nodes one after another
 
 pub record IsNodeAt (places_of : List ℕ → List Place) (ds : List (List ℕ)) (n : ℕ) (y : Node) : Type 0 where
   pub domain : List ℕ

@@ -99,7 +99,7 @@ block-line (d ∷ ds) b l (inr i) = let s = block-line ds (b + 1) l i in (s.0, s
 
 -- ---- the lines of controls
 
--- the parameters of a control are numbered one behind another, behind those of the controls before it
+-- the parameters of a control are numbered one after another, after those of the controls before it
 pub record IsControlLine (ks : List CtlDef) (first : ℕ) (l : Line) : Type 0 where
   pub control : CtlDef
   pub number : ℕ

@@ -1,4 +1,4 @@
--- The CF attributes of the controls of a text, as attributes that stand behind those of its lines: what a text tells of all of them, and the
+-- The CF attributes of the controls of a text, as attributes that stand after those of its lines: what a text says of all of them, and the
 -- leaves that they make.
 use Rattle.std.proofs.Common.{◌≡◌, ℕ, zero, suc, ◌+◌, ◌<◌, ◌≤◌, ◌==◌, ◌||◌, ◌⊎◌, inl, inr, Bool, true, false, List, [], ◌∷◌, ◌++◌, length, map, flat_map, refl, sym, ap, ap₂, subst, ◌∙◌, arith, append_assoc, length-append, true≢false, cond, if◌then◌else◌}
 use Rattle.std.specs.Prelude.{codes, pos}

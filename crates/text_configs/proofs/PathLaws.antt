@@ -57,7 +57,7 @@ name-whole (o ∷ octets) h =
 slash-not : (o : ℕ) → o ≡ 47 → (o == 47) ≡ false → ⊥
 slash-not o e h = true≢false (sym (ap (λ x. x == 47) e) ∙ h)
 
--- a reference tells its domain and its item
+-- a reference says its domain and its item
 pub same-reference : (d e : List ℕ) (item other : List ℕ) → NoSlash d → NoSlash e → d ++ 47 ∷ item ≡ e ++ 47 ∷ other → (d ≡ e) × (item ≡ other)
 same-reference [] [] item other h k is = (refl, tails 47 47 item other is)
 same-reference [] (o ∷ e) item other h k is = absurd (slash-not o (sym (heads 47 o item (e ++ 47 ∷ other) is)) k.0)

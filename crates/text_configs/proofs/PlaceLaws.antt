@@ -38,7 +38,7 @@ item-behind before (named name r k parts others) p (inr i) = by (either p (place
     by (inl j) go further = inside (go j)
     by (inr j) go further = further j
 
--- a place whose item goes on behind a name stands below it
+-- a place whose item goes on after a name stands below it
 pub descend-one : (before : List ℕ) (l : ℕ) (ns : List Named) (p : Place) (a b : List ℕ) (more : List (List ℕ)) → NoDollar a → p.item ≡ before ++ joined (a ∷ b ∷ more) → Among p (places before (grown (suc l) ns))
     → Among p (places (before ++ a ++ 36 ∷ []) (grown l (below a ns)))
 descend-one before l ns p a b more plain is i = let s = placed before l ns p i in

@@ -68,7 +68,7 @@ above-back path node h = let s = some-passes (λ k. bytes_eq node k) (above path
 
 -- ---- directly below
 
--- a `$` at f, and none behind it up to l
+-- a `$` at f, and none after it up to l
 pub record IsSpan (path : List ℕ) (f l : ℕ) : Type 0 where
   pub order : f < l
   pub dollar : slice_index path f ≡ 36
@@ -162,7 +162,7 @@ names-new node x name [] parts i j = absurd i
 names-new node x name (n ∷ ns) parts (inl e) j = names-old node x ns (with_name node parts n) (edges-new node x (edges n) parts (subst (λ m. Among (node, x) (edges m)) e j))
 names-new node x name (n ∷ ns) parts (inr i) j = names-new node x name ns (with_name node parts n) i j
 
--- a name behind a front, alone or before others, is directly below the front
+-- a name after a front, alone or before others, is directly below the front
 pub child-alone : (front name : List ℕ) (names : List (List ℕ)) → NoDollar name → Among (front ++ 36 ∷ name) names → Among (front ++ 36 ∷ name) (children names front)
 child-alone front name names h i = names-new front (front ++ 36 ∷ name) (front ++ 36 ∷ name) names [] i (edges-alone front name h)
 

@@ -1,4 +1,4 @@
--- What a text tells of its data sets: their references differ, their domains are names, and each DatSet names one.
+-- What a text says of its data sets: their references differ, their domains are names, and each DatSet names one.
 use Rattle.std.proofs.Common.{◌≡◌, ◌<◌, ◌≤◌, ◌+◌, ℕ, zero, suc, Bool, true, false, ◌&&◌, ◌||◌, ◌⊎◌, inl, inr, List, [], ◌∷◌, ◌++◌, length, map, is_some, refl, sym, ap, ap₂, subst, ◌∙◌, arith, true≢false, if◌then◌else◌, slice_index_or, length-append, Option, Some}
 use Rattle.std.specs.Prelude.{◌==◌, nat_le}
 use Rattle.std.specs.List.{All, find, list_any, list_all}

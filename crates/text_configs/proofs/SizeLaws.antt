@@ -42,7 +42,7 @@ is-under (d ∷ es) e name more (inl same) is = left (entry more e.number) (cut 
 is-under (d ∷ es) e name more (inr i) is = right (entry more e.number) (cut name d.path d.number) (under name es) (is-under es e name more i is)
 
 module _ (kind : ℕ → TypeOf) (n : ℕ) (Known : List (List ℕ) → ℕ → Type 0) (octets : ℕ → List ℕ → ℕ) (parts : List ℕ → List (List ℕ)) (count : IsCount kind Known octets parts) where
-  -- attributes below a front, of at most so many names
+  -- attributes below a front, of at most n names
   pub record AreBelow (front : List (List ℕ)) (depth : ℕ) (es : List Entry) : Type 0 where
     pub entries : AreEntries kind n es
     pub known : (e : Entry) → Among e es → Known (front ++ e.path) e.number

@@ -14,8 +14,12 @@ ghost use Rattle.data_sets.specs.Standing.{Stands, dat_sets};
 /// is empty or names a set; it has at most 32 blocks. So the book that is opened with its sets, in which each DatSet then
 /// names its set, stands for the history without a step.
 pub fn texts_have_books()
-    ensures named { (text : List ℕ) (c : Config) → config_at text ≡ Ok c → AreNamed (configured_model c) }
-    ensures few { (text : List ℕ) (c : Config) → config_at text ≡ Ok c → length (configured_model c).blocks ≤ 32 }
-    ensures opened { (text : List ℕ) (c : Config) (rows : List SetRow) → config_at text ≡ Ok c → AreSets rows (configured_model c).sets
-        → Stands (after_names (dat_sets (configured_model c) []) (opened rows)) (configured_model c) [] }
+    ensures named { (text : List ℕ) (c : Config) → config_at text ≡ Ok c
+        → AreNamed (configured_model c) }
+    ensures few { (text : List ℕ) (c : Config) → config_at text ≡ Ok c
+        → length (configured_model c).blocks ≤ 32 }
+    ensures opened { (text : List ℕ) (c : Config) (rows : List SetRow) → config_at text ≡ Ok c
+        → AreSets rows (configured_model c).sets
+        → Stands (after_names (dat_sets (configured_model c) []) (opened rows))
+        (configured_model c) [] }
 {}

@@ -14,5 +14,6 @@ ghost use Rattle.setting_groups.specs.Standing.{Stands};
 /// without a step.
 pub fn texts_have_groups()
     ensures grouped { (text : List ℕ) (c : Config) → config_at text ≡ Ok c → IsGrouped c }
-    ensures opened { (text : List ℕ) (c : Config) → config_at text ≡ Ok c → Stands (opened c (domains c)) (configured_model c) [] }
+    ensures opened { (text : List ℕ) (c : Config) → config_at text ≡ Ok c
+        → Stands (opened c (domains c)) (configured_model c) [] }
 {}

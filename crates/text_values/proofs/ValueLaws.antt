@@ -15,7 +15,7 @@ use Rattle.text_words.specs.Numbers.{greatest}
 use Rattle.text_words.specs.Grammar.{IsType, FitsInt, IsOfType, AreOfType}
 use Rattle.list_laws.proofs.Places.{below-tells, equal-number}
 
--- a number of so many bits
+-- a number of n bits
 int-8 : (z : ℤ) → FitsInt 8 z → is_in_range (kind_of (types.Int 8)) (values.Int z) ≡ true
 int-8 (pos n) h = grind (arith, nat_tests)
 int-8 (negsuc n) h = grind (arith, nat_tests)

@@ -10,6 +10,7 @@ ghost use Rattle.object_model.specs.Fits.{is_sound};
 /// A value of a type, as the texts of configurations and records have it, is of its kind, within its range, and sound.
 pub fn values_are_of_their_types()
     ensures kinds { (k : TypeOf) (v : Value) → IsOfType k v → is_kind (kind_of k) v ≡ true }
-    ensures ranges { (k : TypeOf) (v : Value) → IsType k → IsOfType k v → is_in_range (kind_of k) v ≡ true }
+    ensures ranges { (k : TypeOf) (v : Value) → IsType k → IsOfType k v
+        → is_in_range (kind_of k) v ≡ true }
     ensures sound { (k : TypeOf) (v : Value) → IsOfType k v → is_sound v ≡ true }
 {}

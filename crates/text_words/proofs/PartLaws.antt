@@ -23,7 +23,7 @@ module _ (p : ℕ → Bool) where
   next-part (suc start) (suc i) (x ∷ xs) le lt before at = let same : i - start ≡ suc i - suc start = omega arith in let further : suc (i + 1) ≡ suc i + 1 = omega arith in
       next-part start i xs (omega (arith, le)) (omega (arith, lt)) (λ k g h. before (suc k) (omega (arith, g)) (omega (arith, h))) at ∙ ap₂ (λ n m. take n (drop start xs) ∷ slice_split p (drop m (x ∷ xs))) same further
 
-  -- the part behind the last separator
+  -- the part after the last separator
   pub last-part : (start : ℕ) (xs : List ℕ) → ((k : ℕ) → start ≤ k → k < length xs → p (get_or xs k 0) ≡ false) → slice_split p (drop start xs) ≡ drop start xs ∷ []
   last-part zero [] none = refl
   last-part zero (x ∷ xs) none = slice_split-cons_no p x xs (none 0 (omega arith) (omega arith)) ∙ ap (onto_first x) (last-part zero xs (λ k g h. none (suc k) (omega arith) (omega (arith, h))))

@@ -25,7 +25,7 @@ IsType _ = ⊥
 abbrev pub SpellsType : List ℕ → TypeOf → Type 0
 SpellsType word kind = (word ≡ type_word kind) ⊎ (((word ≡ codes "dbpos") × (kind ≡ types.Bits 2)) ⊎ ((word ≡ codes "quality") × (kind ≡ types.Bits 13)))
 
--- a number of so many bits, in two's complement
+-- a number of n bits, in two's complement
 abbrev pub FitsInt : ℕ → ℤ → Type 0
 FitsInt bits (pos n) = n < negatives bits
 FitsInt bits (negsuc n) = n < negatives bits

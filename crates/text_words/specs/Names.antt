@@ -37,7 +37,7 @@ are_member _ = false
 abbrev pub is_member : List ℕ → Bool
 is_member reference = are_member (slice_split is_slash reference)
 
--- what stands behind the first `/`
+-- what stands after the first `/`
 abbrev pub item_of : List ℕ → List ℕ
 item_of [] = []
 item_of (octet ∷ octets) = if octet == 47 then octets else item_of octets

@@ -26,7 +26,7 @@ abbrev pub minus : ℕ → ℤ
 minus zero = pos 0
 minus (suc n) = negsuc n
 
--- how many numbers of so many bits are negative
+-- how many numbers of n bits are negative
 abbrev pub negatives : ℕ → ℕ
 negatives bits = if bits == 8 then 128 else if bits == 16 then 32768 else if bits == 32 then 2147483648 else 9223372036854775808
 
@@ -38,15 +38,15 @@ abbrev pub negative_at : ℕ → Option ℕ → Option ℤ
 negative_at least None = None
 negative_at least (Some n) = if nat_le n least then Some (minus n) else None
 
--- with what stands behind a `-`, if there is one
+-- with what stands after a `-`, if there is one
 abbrev pub signed_at : ℕ → List ℕ → Option (List ℕ) → Option ℤ
 signed_at bits octets (Some digits) = negative_at (negatives bits) (number_at digits)
 signed_at bits octets None = positive_at (negatives bits) (number_at octets)
 
--- a signed number of so many bits; `-` may stand before 0 too
+-- a signed number of n bits; `-` may stand before 0 too
 abbrev pub int_at : ℕ → List ℕ → Option ℤ
 int_at bits octets = signed_at bits octets (behind (codes "-") octets)
 
--- the greatest number of so many bits
+-- the greatest number of n bits
 abbrev pub greatest : ℕ → ℕ
 greatest bits = if bits == 8 then 255 else if bits == 16 then 65535 else 4294967295

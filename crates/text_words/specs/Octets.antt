@@ -1,4 +1,4 @@
--- The octets of a line, and the lines that tell nothing.
+-- The octets of a line, and the lines that say nothing.
 use Rattle.std.specs.Prelude.{ℕ, ◌==◌, ◌&&◌, nat_le, Bool, true, List, [], ◌∷◌, ◌≡◌, ◌⊎◌}
 use Rattle.std.specs.List.{list_all}
 

@@ -51,6 +51,6 @@ flags_word dchg qchg dupd =
     if dchg then (if qchg then (if dupd then codes "dqu" else codes "dq") else (if dupd then codes "du" else codes "d"))
     else (if qchg then (if dupd then codes "qu" else codes "q") else (if dupd then codes "u" else codes "-"))
 
--- a word behind a space
+-- a word after a space
 abbrev pub spaced : List ℕ → List ℕ
 spaced word = 32 ∷ word

@@ -11,7 +11,7 @@ abbrev pub made : (ℕ → TypeOf) → Option ℕ → Option TypeOf
 made kind None = None
 made kind (Some n) = Some (kind n)
 
--- a type whose size, at most this, the digits behind its name spell; where it is not that type, another
+-- a type whose size, at most this, the digits after its name spell; where it is not that type, another
 abbrev pub sized : (ℕ → TypeOf) → ℕ → Option (List ℕ) → Option TypeOf → Option TypeOf
 sized kind most None other = other
 sized kind most (Some digits) other = made kind (number_within 1 most digits)

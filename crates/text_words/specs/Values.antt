@@ -20,7 +20,7 @@ read_as kind (Some a) = Some (kind a)
 abbrev pub truth_at : List ℕ → Option Bool
 truth_at word = if bytes_eq word (codes "T") then Some true else if bytes_eq word (codes "F") then Some false else None
 
--- so many digits 0 and 1, the first bit first
+-- n digits 0 and 1, the first bit first
 abbrev pub is_binary : ℕ → Bool
 is_binary octet = octet == 48 || octet == 49
 
@@ -31,7 +31,7 @@ bits_at count word = if (length word == count) && list_all is_binary word then S
 abbrev pub is_graphic : ℕ → Bool
 is_graphic octet = nat_le 33 octet && nat_le octet 126
 
--- `'` and at most so many octets
+-- `'` and at most n octets
 abbrev pub text_at : ℕ → List ℕ → Option (List ℕ)
 text_at most [] = None
 text_at most (mark ∷ octets) = if (mark == 39) && nat_le (length octets) most && list_all is_graphic octets then Some octets else None
@@ -53,7 +53,7 @@ decoded (Err fault) = None
 abbrev pub hex_at : List ℕ → Option (List ℕ)
 hex_at digits = if list_all is_hex digits then decoded (decode_of digits) else None
 
--- `x` and at most so many octets in hexadecimal
+-- `x` and at most n octets in hexadecimal
 abbrev pub octets_at : ℕ → List ℕ → Option (List ℕ)
 octets_at most [] = None
 octets_at most (mark ∷ digits) = if (mark == 120) && nat_le (length digits) (2 * most) then hex_at digits else None

@@ -12,6 +12,6 @@ words_of line = slice_split (λ b. b == 32) line
 abbrev pub texts : List (Bor (List ℕ)) → List (List ℕ)
 texts words = map (λ w. w.now) words
 
--- what stands behind a front
+-- what stands after a front
 abbrev pub behind : List ℕ → List ℕ → Option (List ℕ)
 behind front octets = if bytes_eq (take (length front) octets) front then Some (drop (length front) octets) else None

@@ -1,8 +1,10 @@
 //! Names, paths and references (IEC 61850-7-2, ObjectName and ObjectReference), and functional constraints.
 
 ghost use Rattle.std.specs.Prelude.{◌≡◌, IfOk};
-ghost use Rattle.text_words.specs.Names.{is_name_octet as names_octet, is_letter as letter_at, is_name as names, is_path as joins_names};
-ghost use Rattle.text_words.specs.Names.{is_member as refers, are_member as refer, item_of as item_of_reference, is_dollar};
+ghost use Rattle.text_words.specs.Names.{is_name_octet as names_octet, is_letter as letter_at};
+ghost use Rattle.text_words.specs.Names.{is_name as names, is_path as joins_names};
+ghost use Rattle.text_words.specs.Names.{is_member as refers, are_member as refer};
+ghost use Rattle.text_words.specs.Names.{item_of as item_of_reference, is_dollar};
 ghost use Rattle.text_words.specs.Names.{is_fc as names_fc};
 ghost use Rattle.text_words.specs.Words.{texts};
 ghost use Rattle.std.specs.List.{count_by, list_all};
@@ -69,7 +71,7 @@ fn are_member(parts: &[&[u8]]) -> bool
     }
 }
 
-/// The octets behind the first `/`, none where there is none.
+/// The octets after the first `/`, none where there is none.
 pub fn item_of(reference: &[u8]) -> &[u8]
     ensures { result.now ≡ item_of_reference reference.now }
 {

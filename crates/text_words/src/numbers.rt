@@ -2,14 +2,16 @@
 
 ghost use Rattle.std.specs.Prelude.{◌≡◌, ◌≤◌, MatchOption};
 ghost use Rattle.std.specs.Str.Parse.{digits_value};
-ghost use Rattle.text_words.specs.Numbers.{AreDigitsOf64, number_at, number_within, int_at, negatives as negatives_of, minus as minus_of};
+ghost use Rattle.text_words.specs.Numbers.{AreDigitsOf64, number_at, number_within, int_at};
+ghost use Rattle.text_words.specs.Numbers.{negatives as negatives_of, minus as minus_of};
 ghost use Rattle.text_words.specs.Numbers.{positive_at, negative_at};
 
 use crate::words::after_front;
 
 /// The number of these digits, if it is below 2^64; leading zeros may be among them.
 fn digits_of(word: &[u8]) -> Option<u64>
-    ensures { MatchOption result (¬ AreDigitsOf64 word.now) (λ n. AreDigitsOf64 word.now × (n ≡ digits_value 10 word.now)) }
+    ensures { MatchOption result (¬ AreDigitsOf64 word.now) (λ n. AreDigitsOf64 word.now
+        × (n ≡ digits_value 10 word.now)) }
 {
     let mut n = 0u64;
     for octet in word {
@@ -44,7 +46,7 @@ pub fn number_between(octets: &[u8], least: u32, most: u32) -> Option<u32>
     }
 }
 
-/// How many numbers of so many bits, 8, 16, 32 or 64, are negative.
+/// How many numbers of n bits, 8, 16, 32 or 64, are negative.
 fn negatives(bits: u8) -> u64
     ensures value { result ≡ negatives_of bits }
     ensures few { result ≤ 9223372036854775808 }
@@ -85,7 +87,7 @@ fn negative(digits: &[u8], negatives: u64) -> Option<i64>
     }
 }
 
-/// The number of so many bits that the octets spell, with `-` where it is negative; 0 may have one too.
+/// The number of n bits that the octets spell, with `-` where it is negative; 0 may have one too.
 pub fn int(octets: &[u8], bits: u8) -> Option<i64>
     ensures { result ≡ int_at bits octets.now }
 {

@@ -1,11 +1,14 @@
-//! Words, numbers, types and values, each spelled behind a space.
+//! Words, numbers, types and values, each spelled after a space.
 
 ghost use Rattle.std.specs.Prelude.{◌≡◌, ◌++◌, ◌∷◌, length, take, OnOk, OnErr};
 ghost use Rattle.std.specs.Fmt.{decimal};
 ghost use Rattle.std.specs.List.{flat_map};
 ghost use Rattle.hex.specs.Hex.{encode_lower};
-ghost use Rattle.text_words.specs.Spelled.{bits_word as word_of_bits, text_word, time_octets as octets_of_time, value_word as word_of_value};
-ghost use Rattle.text_words.specs.Spelled.{type_word as word_of_type, flags_word as word_of_flags, spaced};
+ghost use Rattle.text_words.specs.Spelled.{bits_word as word_of_bits, text_word};
+ghost use Rattle.text_words.specs.Spelled.{time_octets as octets_of_time};
+ghost use Rattle.text_words.specs.Spelled.{value_word as word_of_value};
+ghost use Rattle.text_words.specs.Spelled.{type_word as word_of_type, flags_word as word_of_flags};
+ghost use Rattle.text_words.specs.Spelled.{spaced};
 
 use itoa::Buffer;
 use std::alloc::{AllocError, Global};
@@ -68,7 +71,8 @@ fn time_octets(time: Utc) -> [u8; 8]
 
 /// Adds a space and a moment.
 fn push_time(alloc: Global, out: &mut Vec<u8>, time: Utc) -> Result<(), AllocError>
-    ensures { OnOk result (out.new.items ≡ out.old.items ++ spaced (encode_lower (octets_of_time time))) }
+    ensures { OnOk result (out.new.items ≡ out.old.items ++ spaced
+        (encode_lower (octets_of_time time))) }
 {
     out.push(b' ')?;
     push_hex(alloc, out, &time_octets(time))
@@ -76,7 +80,8 @@ fn push_time(alloc: Global, out: &mut Vec<u8>, time: Utc) -> Result<(), AllocErr
 
 /// Adds a space and octets.
 fn push_octets(alloc: Global, out: &mut Vec<u8>, octets: &[u8]) -> Result<(), AllocError>
-    ensures { OnOk result (out.new.items ≡ out.old.items ++ spaced (120 ∷ encode_lower octets.now)) }
+    ensures { OnOk result (out.new.items ≡ out.old.items ++ spaced
+        (120 ∷ encode_lower octets.now)) }
 {
     out.extend_from_slice(b" x")?;
     push_hex(alloc, out, octets)
@@ -99,9 +104,10 @@ fn push_value(alloc: Global, out: &mut Vec<u8>, value: &Value) -> Result<(), All
     }
 }
 
-/// Adds each value behind a space.
+/// Adds each value after a space.
 pub fn push_values(alloc: Global, out: &mut Vec<u8>, values: &[Value]) -> Result<(), AllocError>
-    ensures { OnOk result (out.new.items ≡ out.old.items ++ flat_map (λ v. spaced (word_of_value v)) values.now) }
+    ensures { OnOk result (out.new.items ≡ out.old.items ++ flat_map
+        (λ v. spaced (word_of_value v)) values.now) }
 {
     for value in values {
         push_value(alloc, out, value)?;

@@ -1,8 +1,10 @@
 //! The values that words spell.
 
 ghost use Rattle.std.specs.Prelude.{◌≡◌, ◌==◌, [], ◌≤◌, IfOk, length, map, option_copied};
-ghost use Rattle.text_words.specs.Values.{truth_at, bits_at, text_at, hex_at, octets_at, utc_of as utc_of_octets, time_at, value_at};
-ghost use Rattle.text_words.specs.Values.{is_hex as hex_digit, is_graphic as graphic, is_binary as binary, option_items};
+ghost use Rattle.text_words.specs.Values.{truth_at, bits_at, text_at, hex_at, octets_at};
+ghost use Rattle.text_words.specs.Values.{utc_of as utc_of_octets, time_at, value_at};
+ghost use Rattle.text_words.specs.Values.{is_hex as hex_digit, is_graphic as graphic};
+ghost use Rattle.text_words.specs.Values.{is_binary as binary, option_items};
 ghost use Rattle.std.specs.List.{list_all};
 ghost use Rattle.text_words.specs.Values.{values_at, option_values};
 ghost use Rattle.text_words.specs.Words.{texts};
@@ -53,7 +55,7 @@ pub fn truth_values(alloc: Global, word: &[u8]) -> Result<Vec<bool>, AllocError>
     word.iter().map(|octet| *octet == b'1').collect(alloc)
 }
 
-/// An unsigned number of so many bits, 8, 16 or 32.
+/// An unsigned number of n bits, 8, 16 or 32.
 fn uint(word: &[u8], bits: u8) -> Option<u64>
     ensures { result ≡ number_within 0 (greatest bits) word.now }
 {
@@ -65,7 +67,7 @@ fn uint(word: &[u8], bits: u8) -> Option<u64>
     number_between(word, 0, most).map(u64::from)
 }
 
-/// So many digits 0 and 1, the first bit first.
+/// This many digits 0 and 1, the first bit first.
 pub fn bits(alloc: Global, word: &[u8], count: u16) -> Result<Option<Bits>, AllocError>
     ensures { IfOk result (λ r. r ≡ bits_at count word.now) }
 {
@@ -88,7 +90,7 @@ pub fn all_graphic(octets: &[u8]) -> bool
     octets.iter().all(|octet| is_graphic(*octet))
 }
 
-/// `'` and at most so many visible octets.
+/// `'` and at most n visible octets.
 pub fn text(alloc: Global, word: &[u8], most: u16) -> Result<Option<Octs>, AllocError>
     ensures { IfOk result (λ r. r ≡ text_at most word.now) }
 {
@@ -126,7 +128,7 @@ pub fn hex_octets(alloc: Global, digits: &[u8]) -> Result<Option<Vec<u8>>, Alloc
     }
 }
 
-/// `x` and at most so many octets in hexadecimal.
+/// `x` and at most n octets in hexadecimal.
 fn octets(alloc: Global, word: &[u8], most: u16) -> Result<Option<Octs>, AllocError>
     ensures { IfOk result (λ r. r ≡ octets_at most word.now) }
 {

@@ -38,7 +38,7 @@ pub fn put_parts<'a>(
     Ok(())
 }
 
-/// What stands behind a front.
+/// What stands after a front.
 pub fn after_front<'a>(octets: &'a [u8], front: &[u8]) -> Option<&'a [u8]>
     ensures { option_copied result ≡ behind front.now octets.now }
 {

@@ -66,12 +66,12 @@ not_any r h = grind (arith, h)
 abbrev pub given : ℕ → Reasons → (ℕ → Reasons) → ℕ → Reasons
 given k r f j = cond (j == k) (union (f j) r) (f j)
 
--- a list from behind a number doesn't change
+-- a list from after a number doesn't change
 noted_alike : (f g : ℕ → Reasons) (i n : ℕ) → ((j : ℕ) → i ≤ j → f j ≡ g j) → noted_by f i n ≡ noted_by g i n
 noted_alike f g i zero same = refl
 noted_alike f g i (suc n) same = ap₂ (λ (r : Reasons) l. cond (is_any r) (record { member = record { 0 = i }; reasons = r } ∷ l) l) (same i (omega arith)) (noted_alike f g (suc i) n (λ j h. same j (omega (arith, h))))
 
--- all of it is behind
+-- all of it is after
 add_front : (k : ℕ) (r : Reasons) (f : ℕ → Reasons) (i n : ℕ) → k < i → add k r (noted_by f i n) ≡ record { member = record { 0 = k }; reasons = r } ∷ noted_by f i n
 add_front k r f i zero h = refl
 add_front k r f i (suc n) h = by (is_any (f i)) (add_front k r f (suc i) n (omega (arith, h))) where
@@ -454,7 +454,7 @@ noted_few f i (suc n) = by (is_any (f i)) (noted_few f (suc i) n) where
   by true h = omega (arith, h)
   by false h = omega (arith, h)
 
--- ---- room
+-- ---- memory
 
 -- one touch more
 pub next_fits : (b : ℕ) (r : Reasons) (t : Touch) (ms : List Mention) (f : ℕ → Reasons) (i n : ℕ) → ms ≡ noted_by f i n → (t.block.0 ≡ b → (i ≤ t.member.0) × (t.member.0 < i + n)) → is_any r ≡ true → t.block.0 ≡ b
@@ -476,7 +476,7 @@ pub changes_step : (b : ℕ) (trg : Trg) (all : List Touch) (chs : List Change) 
     → add_changes b trg all (drop k chs) ms ≡ add_changes b trg all (drop (k + 1) chs) (add_change b trg all (get_or chs k d) ms)
 changes_step b trg all chs k d ms h = ap (λ l. add_changes b trg all l ms) (drop_more chs k d h)
 
--- there is room for the touch that comes next
+-- there is capacity for the touch that comes next
 pub touch_fits : (b : ℕ) (r : Reasons) (ts : List Touch) (k : ℕ) (ms : List Mention) (i n room : ℕ) → k < length ts → (get_or ts k no_touch).block.0 ≡ b → is_any r ≡ true → InRange b i n ts → n ≤ room
     → (g : ℕ → Reasons) × (ms ≡ noted_by g i n) → length (add (get_or ts k no_touch).member.0 r ms) ≤ room
 touch_fits b r ts k ms i n room h same any range few some =

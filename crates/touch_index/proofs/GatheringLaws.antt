@@ -52,7 +52,7 @@ pub own_touched : (b : ℕ) (trg : Trg) (ch : Change) (t : Touch) (ms : List Men
     → one_touched b trg ch t ms ≡ cond a (add t.member.0 (reasons_by trg ch) ms) ms
 own_touched b trg ch t ms a h is = ap₂ (λ x c. cond x (cond c (add t.member.0 (reasons_by trg ch) ms) ms) ms) is (let e : (t.block.0 == b) ≡ true = grind (arith, nat_tests, h) in e)
 
--- the touches behind the next one
+-- the touches after the next one
 fits_rest : (b i n k : ℕ) (ts : List Touch) → k < length ts → InRange b i n (drop k ts) → InRange b i n (drop (k + 1) ts)
 fits_rest b i n k ts h range = (subst (InRange b i n) (drop_more ts k no_touch h) range).1
 

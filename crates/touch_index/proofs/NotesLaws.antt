@@ -86,7 +86,7 @@ module _ (notes : List (Filled Mention)) (touched : List BlockNo) (are : IsCover
     by b h (inl e) = are.once b h ∙ (ap (λ k. weight (note_at notes k)) e ∙ (same ∙ (sym here ∙ ap (λ k. weight (note_at (set notes i y) k)) (sym e))))
     by b h (inr e) = are.once b h ∙ sym (there b e)
 
-  -- room for one more
+  -- memory for one more
   pub covered_room : weight (note_at notes i) ≡ 0 → weight y ≡ 1 → length touched < length notes
   covered_room was now = omega (arith, sum, was, now, are.counted, sum_by-le weight 1 (set notes i y) (λ k d h. least (get_or (set notes i y) k d)), length-set notes i y)
 

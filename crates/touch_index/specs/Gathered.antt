@@ -37,17 +37,17 @@ abbrev pub AreOnce : List Change → Type 0
 AreOnce [] = Unit {0}
 AreOnce (ch ∷ chs) = (change_of chs ch.attr ≡ None) × AreOnce chs
 
--- the members from number i on, so many, that have a reason
+-- the members from number i on, that many, that have a reason
 abbrev pub noted_by : (ℕ → Reasons) → ℕ → ℕ → List Mention
 noted_by f i zero = []
 noted_by f i (suc n) = cond (is_any (f i)) (record { member = record { 0 = i }; reasons = f i } ∷ noted_by f (suc i) n) (noted_by f (suc i) n)
 
--- the members of block b that touches name are among those from i on, so many
+-- the members of block b that touches name are among those from i on, that many
 abbrev pub InRange : ℕ → ℕ → ℕ → List Touch → Type 0
 InRange b i n [] = Unit {0}
 InRange b i n (t ∷ ts) = (t.block.0 ≡ b → (i ≤ t.member.0) × (t.member.0 < i + n)) × InRange b i n ts
 
--- a note of so many members at most, which these touches name, has room
+-- a note of n members at most, which these touches name, has capacity
 abbrev pub CanAdd : ℕ → List Touch → Filled Mention → Type 0
 CanAdd b ts out = (f : ℕ → Reasons) × (i : ℕ) × (n : ℕ) × (out.items ≡ noted_by f i n) × InRange b i n ts × (n ≤ out.room)
 

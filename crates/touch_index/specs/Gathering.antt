@@ -57,6 +57,6 @@ AreEmpty notes = All (λ (n : Filled Mention). n.items ≡ []) notes
 abbrev pub add_touched : ℕ → Trg → Change → List Touch → List Mention → List Mention
 add_touched b trg ch ts ms = cond (is_any (reasons_by trg ch)) (add_touches b (reasons_by trg ch) ts ms) ms
 
--- the note of each block has room for the members of its data set
+-- the note of each block has capacity for the members of its data set
 abbrev pub AreRoomy : Indexed → List (Filled Mention) → Type 0
 AreRoomy x notes = (b : ℕ) → b < length x.blocks → (members : List MemberShape) × IsSetOf x.blocks b members × (length members ≤ (note_at notes b).room)

@@ -8,7 +8,7 @@ use Rattle.touch_index.specs.declared.touch.Touch.{Touch}
 use Rattle.touch_index.specs.declared.touch.Row.{Row}
 use Rattle.touch_index.specs.Spread.{IsWithin, IsSpread}
 
--- how many attributes there are, and of each block the touches of its members, with the room for them
+-- how many attributes there are, and of each block the touches of its members, with the memory for them
 pub record Indexed : Type 0 where
   pub attrs : ℕ
   pub blocks : List (Filled Touch)
@@ -21,7 +21,7 @@ abbrev pub rooms_in : List (Filled Touch) → ℕ
 rooms_in [] = 0
 rooms_in (b ∷ bs) = b.room + rooms_in bs
 
--- a block without touches, with room for so many
+-- a block without touches, with capacity for that many
 abbrev pub bare : ℕ → Filled Touch
 bare room = record { items = []; room = room }
 
@@ -50,7 +50,7 @@ abbrev pub IsOwnedFrom : ℕ → List (Filled Touch) → Type 0
 IsOwnedFrom j [] = Unit {0}
 IsOwnedFrom j (b ∷ bs) = All (λ (t : Touch). t.block.0 ≡ j) b.items × IsOwnedFrom (suc j) bs
 
--- the touches of all blocks are their own, each in its block's room, and there is room to sort them
+-- the touches of all blocks are their own, each in its block's memory, and there is memory to sort them
 pub record IsFilled (blocks : List (Filled Touch)) (rows : List Row) (sorted : List Touch) : Type 0 where
   pub within : IsWithin (length rows) (touches_in blocks)
   pub room : rooms_in blocks ≤ length sorted
@@ -63,7 +63,7 @@ pub record IsSorted (blocks : List (Filled Touch)) (rows : List Row) (sorted : L
   pub is_filled : IsFilled blocks rows sorted
   pub spread : IsSpread (touches_in blocks) (touches_in blocks) rows sorted
 
--- each attribute of the members is among so many
+-- each attribute of the members is among that many
 abbrev pub AreAmong : ℕ → List MemberShape → Type 0
 AreAmong attrs [] = Unit {0}
 AreAmong attrs (m ∷ ms) = All (λ (x : AttrId). x.0 < attrs) m.attrs × AreAmong attrs ms
@@ -72,6 +72,6 @@ AreAmong attrs (m ∷ ms) = All (λ (x : AttrId). x.0 < attrs) m.attrs × AreAmo
 abbrev pub with_members : ℕ → List MemberShape → List (Filled Touch) → List (Filled Touch)
 with_members b ms blocks = slice_set blocks b (record { items = touches_from b 1 ms; room = (block_at blocks b).room })
 
--- the block with room for so many pairs at least
+-- the block with capacity for n pairs at least
 abbrev pub with_room : ℕ → ℕ → List (Filled Touch) → List (Filled Touch)
 with_room b most blocks = slice_set blocks b (record { items = (block_at blocks b).items; room = max (block_at blocks b).room most })

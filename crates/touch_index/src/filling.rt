@@ -23,7 +23,7 @@ pub(crate) fn fill(block: &mut Touches, b: BlockNo, set: &SetView<'_>)
     }
 }
 
-/// So many blocks without touches, each with room for so many.
+/// This many blocks without touches, each with capacity for that many.
 fn bare_blocks(alloc: Global, blocks: u32, room: u32) -> Result<Vec<Touches>, AllocError>
     ensures { IfOk result (λ v. v.items ≡ replicate blocks (bare room)) }
 {
@@ -34,7 +34,7 @@ fn bare_blocks(alloc: Global, blocks: u32, room: u32) -> Result<Vec<Touches>, Al
     Ok(made)
 }
 
-/// So many touches of no account.
+/// This many touches of no account.
 fn no_touches(alloc: Global, blocks: u32, room: u32) -> Result<Vec<Touch>, AllocError>
     ensures { IfOk result (λ v. length v.items ≡ blocks * room) }
 {
@@ -73,9 +73,12 @@ impl Filling {
     ghost use Rattle.std.specs.Prelude.{◌≡◌, ◌≤◌, ◌<◌, ◌^◌, length, replicate, IfOk};
     ghost use Rattle.touch_index.specs.Indexed.{block_at, with_members, pairs, bare, AreAmong};
 
-    /// So many blocks without members, each with room for so many pairs of attribute and member.
+    /// This many blocks without members, each with capacity for n pairs of attribute and member.
     pub fn open(alloc: Global, blocks: u32, attrs: u32, room: u32) -> Result<Filling, AllocError>
-        ensures { IfOk result (λ x. x ≡ record { attrs = attrs; blocks = replicate blocks (bare room) }) }
+        ensures { IfOk result (λ x. x ≡ record {
+          attrs = attrs;
+          blocks = replicate blocks (bare room);
+        }) }
     {
         Ok(Filling {
             blocks: bare_blocks(alloc, blocks, room)?,
@@ -90,7 +93,10 @@ impl Filling {
         requires room { pairs set.now ≤ (block_at self.old.blocks b.0).room }
         requires counted { length set.now < 2 ^ 32 }
         requires among { AreAmong self.old.attrs set.now }
-        ensures { self.new ≡ record { attrs = self.old.attrs; blocks = with_members b.0 set.now self.old.blocks } }
+        ensures { self.new ≡ record {
+          attrs = self.old.attrs;
+          blocks = with_members b.0 set.now self.old.blocks;
+        } }
     {
         fill(&mut self.blocks[b.0 as usize], b, set);
     }

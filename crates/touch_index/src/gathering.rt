@@ -16,10 +16,12 @@ use trigger_core::reasons_by;
 fn gather_change(change: Change, touches: &[Touch], trgs: &[Trg], out: &mut Notes)
     requires within { All (λ (t : TouchValue). t.block.0 < length out.old.notes) touches.now }
     requires trgs { length trgs.now ≡ length out.old.notes }
-    requires fits { (b : ℕ) → b < length out.old.notes → CanAdd b touches.now (note_at out.old.notes b) }
+    requires fits { (b : ℕ) → b < length out.old.notes
+        → CanAdd b touches.now (note_at out.old.notes b) }
     ensures count { length out.new.notes ≡ length out.old.notes }
     ensures rooms { (b : ℕ) → (note_at out.new.notes b).room ≡ (note_at out.old.notes b).room }
-    ensures items { (b : ℕ) → b < length out.old.notes → (note_at out.new.notes b).items ≡ add_touched b (trg_at trgs.now b) change touches.now
+    ensures items { (b : ℕ) → b < length out.old.notes
+        → (note_at out.new.notes b).items ≡ add_touched b (trg_at trgs.now b) change touches.now
         (note_at out.old.notes b).items }
 {
     for touch in touches {
@@ -51,11 +53,12 @@ impl Index {
         requires once { AreOnce changes.now }
         ensures count { length out.new.notes ≡ length out.old.notes }
         ensures rooms { (b : ℕ) → (note_at out.new.notes b).room ≡ (note_at out.old.notes b).room }
-        ensures noted { (b : ℕ) (members : List MemberShape) → b < length self.now.blocks → IsSetOf self.now.blocks b members
+        ensures noted { (b : ℕ) (members : List MemberShape) → b < length self.now.blocks
+            → IsSetOf self.now.blocks b members
             → (note_at out.new.notes b).items ≡ noted changes.now (trg_at trgs.now b) 1 members }
     {
         let _ = &self.blocks;
-        // Steps give on what they set last first, and most set attributes in their order: so most members come behind the others.
+        // Steps give on what they set last first, and most set attributes in their order: so most members come after the others.
         for i in (0..changes.len()).rev() {
             let change = changes[i];
             gather_change(change, self.touched(change.attr), trgs, out);

@@ -5,8 +5,8 @@ use std::alloc::{AllocError, Global};
 use std::marker::Model;
 use sv_base::{AttrId, BlockNo, MemberNo};
 
-/// The touches of the members of one block, in their order, in room that was made before. Contracts see the list of them,
-/// and how many have room.
+/// The touches of the members of one block, in their order, in memory that was allocated before. Contracts see the list of them,
+/// and how many fit.
 #[derive(Debug, Drop)]
 pub(crate) struct Touches {
     items: Vec<Touch>,
@@ -26,10 +26,11 @@ impl Model for Touches {
 }
 
 impl Touches {
-    ghost use Rattle.std.specs.Prelude.{◌≡◌, ◌≤◌, ◌<◌, ◌+◌, ◌++◌, ◌∷◌, [], length, max, IfOk, OnOk, OnErr};
+    ghost use Rattle.std.specs.Prelude.{◌≡◌, ◌≤◌, ◌<◌, ◌+◌, ◌++◌, ◌∷◌, [], length, max, IfOk, OnOk};
+    ghost use Rattle.std.specs.Prelude.{OnErr};
     ghost use Rattle.touch_index.specs.Indexed.{touches_of};
 
-    /// None, in room for so many.
+    /// None, in memory for that many.
     pub(crate) fn with_room(alloc: Global, room: u32) -> Result<Touches, AllocError>
         ensures { IfOk result (λ t. t ≡ record { items = []; room = room }) }
     {
@@ -39,7 +40,7 @@ impl Touches {
         })
     }
 
-    /// How many have room.
+    /// How many fit.
     pub(crate) fn room(&self) -> usize
         ensures { result ≡ self.now.room }
     {
@@ -60,7 +61,7 @@ impl Touches {
         self.items.clear();
     }
 
-    /// Makes room for so many at least.
+    /// Reserves memory for that many at least.
     pub(crate) fn reserve(&mut self, wanted: usize) -> Result<(), AllocError>
         requires { self.old.room ≤ wanted }
         ensures made { OnOk result (self.new ≡ record { items = self.old.items; room = wanted }) }
@@ -74,7 +75,10 @@ impl Touches {
     /// Adds the touches of a member. It takes no memory.
     pub(crate) fn push_all(&mut self, b: BlockNo, member: MemberNo, attrs: &[AttrId])
         requires { length self.old.items + length attrs.now ≤ self.old.room }
-        ensures { self.new ≡ record { items = self.old.items ++ touches_of b.0 member.0 attrs.now; room = self.old.room } }
+        ensures { self.new ≡ record {
+          items = self.old.items ++ touches_of b.0 member.0 attrs.now;
+          room = self.old.room;
+        } }
     {
         for attr in attrs {
             let _ = self.items.push(Touch {

@@ -1,4 +1,4 @@
--- What a reader of TPKTs tells of the input.
+-- What a reader of TPKTs says of the input.
 use Rattle.std.proofs.Common.{◌≡◌, ℕ, ◌+◌, ◌-◌, ◌*◌, ◌/◌, ◌%◌, ◌<◌, ◌≤◌, cond, eqb, ltb, List, [], ◌∷◌, ◌++◌, length, take, drop, min, replicate, Option, Some, None, Result, Ok, Err, refl, sym, ap, subst, ◌∙◌, inl, inr, append_assoc, arith}
 use Rattle.std.specs.Prelude.{MatchOption, MatchResult}
 use Rattle.std.proofs.lemmas.Bool.{eqb-true, eqb-false, ltb-true, ltb-false, lt-ltb, le-ltb, ne_eqb, cond_both}
@@ -14,7 +14,7 @@ PacketTells input (Ok None) = IsPartial input
 PacketTells input (Ok (Some x)) = IsTpdu x.0 × (input ≡ packet x.0 ++ x.1)
 PacketTells input (Err f) = IsBad input f
 
--- a TPKT of so many octets behind its header
+-- a TPKT of n octets after its header
 packet_is : (c d : ℕ) (tpdu : List ℕ) → c < 256 → d < 256 → length tpdu + 4 ≡ c * 256 + d → packet tpdu ≡ 3 ∷ 0 ∷ c ∷ d ∷ tpdu
 packet_is c d tpdu hc hd len =
     let high : (length tpdu + 4) / 256 ≡ c = omega arith in
@@ -118,7 +118,7 @@ partial_again input fits (tpdu, more, is, some, p) = partial_at input tpdu more 
 
 -- ---- what is held is topped up
 
--- the length that a header tells, or that of a header where it is not whole
+-- the length that a header says, or that of a header where it is not whole
 abbrev total_at : List ℕ → ℕ
 total_at [] = 4
 total_at (a ∷ []) = 4

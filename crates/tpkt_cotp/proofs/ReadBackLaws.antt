@@ -67,7 +67,7 @@ tsdu_takes e octets s is there few =
       runs = segments_give (room e) octets s there few;
     }
 
--- A TSDU that is written behind a stream with nothing open is given, whatever was given before, and nothing is open then.
+-- A TSDU that is written after a stream with nothing open is given, whatever was given before, and nothing is open then.
 pub tsdu_stands : (dialled : Bool) (s : State) (b octets : List ℕ) (e : ℕ) (es : List Tsdu) → IsBytes (b ++ tsdu_of e octets) → IsExponent e → length octets ≤ 70000 → s.connected ≡ true → s.tsdu ≡ [] → StandsAt dialled s [] b es
     → StandsAt dialled (with_tsdu s []) [] (b ++ tsdu_of e octets) (es ++ Data octets ∷ [])
 tsdu_stands dialled s b octets e es fits is few there none before =

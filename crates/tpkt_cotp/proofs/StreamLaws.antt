@@ -180,7 +180,7 @@ no_fault = None
 abbrev some_fault : TpFault → Option TpFault
 some_fault x = Some x
 
--- A stream that is refused is refused for one reason, behind one list of gifts.
+-- A stream that is refused is refused for one reason, after one list of gifts.
 pub one_refusal : (dialled : Bool) (octets : List ℕ) (es ds : List Tsdu) (f g : TpFault) → IsRefused dialled octets es f → IsRefused dialled octets ds g → (es ≡ ds) × (f ≡ g)
 one_refusal dialled octets es ds f g a b =
     let one = one_end (start dialled) a.state b.state octets a.bad b.bad a.takes.tpdus b.takes.tpdus es ds (Some f) (Some g) a.fits a.stops b.stops a.takes.whole a.takes.each a.takes.runs b.takes.whole b.takes.each b.takes.runs in

@@ -1,4 +1,4 @@
--- What reading tells of a TPDU, and what is spelled is read.
+-- What reading says of a TPDU, and what is spelled is read.
 use Rattle.std.proofs.Common.{◌≡◌, ◌≢◌, ℕ, ◌+◌, ◌*◌, ◌≤◌, ◌<◌, ◌⊎◌, Bool, true, false, cond, eqb, ltb, List, [], ◌∷◌, ◌++◌, length, Option, Some, None, Result, Ok, Err, refl, sym, ap, subst, ◌∙◌, inl, inr, arith}
 use Rattle.std.specs.Prelude.{MatchResult}
 use Rattle.std.specs.List.{flat_map}
@@ -77,7 +77,7 @@ malformed_again li (a ∷ b ∷ c ∷ d ∷ class ∷ more) f (inr (inr (inr (sa
     let long : 6 ≤ li = omega (arith, count) in
     rw (le-ltb li 6 long, lt-ltb class 16 low, eq-eqb li (6 + length more) count, same) (parameters_refused (unsaid (c * 256 + d)) more bad)
 
--- ---- behind a header that is whole
+-- ---- after a header that is whole
 
 abbrev CodedTells : State → ℕ → ℕ → List ℕ → Result (State × Option Tsdu) TpFault → Type 0
 CodedTells s li code rest (Ok x) = IsTaken s (li ∷ code ∷ rest) x.0 x.1

@@ -53,7 +53,7 @@ parameter_at [] = Ok None
 parameter_at (code ∷ []) = Err Tpdu
 parameter_at (code ∷ len ∷ more) = if nat_lt (length more) len then Err Tpdu else Ok (Some (code, take len more, drop len more))
 
--- All parameters in turn, at most so many as the number says.
+-- All parameters in turn, at most that many as the number says.
 abbrev pub parameters_at : ℕ → Cr → List ℕ → Result Cr TpFault
 parameters_at n cr [] = Ok cr
 parameters_at n cr (code ∷ []) = Err Tpdu

@@ -71,11 +71,11 @@ HasRefused t f = t.refused ≡ Some f
 abbrev pub IsOpen : TransportIn → Type 0
 IsOpen t = (t.held ≡ []) × (t.state.connected ≡ true) × (t.state.tsdu ≡ [])
 
--- it holds at most so many octets of a TPKT, and so many of an open TSDU
+-- it holds at most n octets of a TPKT, and that many of an open TSDU
 abbrev pub Keeps : TransportIn → ℕ → ℕ → Type 0
 Keeps t held open_tsdu = (length t.held ≤ held) × (length t.state.tsdu ≤ open_tsdu)
 
--- Behind whole TPKTs, which gave this, the stream goes on in no legal way.
+-- After whole TPKTs, which gave this, the stream goes on in no legal way.
 pub record IsRefused (dialled : Bool) (octets : List ℕ) (given : List Tsdu) (f : TpFault) : Type 0 where
   pub fits : IsBytes octets
   pub state : State
@@ -99,12 +99,12 @@ Refuses f dialled octets given before now = (more : List Tsdu) × (now ≡ befor
 
 -- ---- one TPKT at a time
 
--- Behind what is held the piece completes a TPKT, which gives this and leads to another state, or all of it is held.
+-- After what is held the piece completes a TPKT, which gives this and leads to another state, or all of it is held.
 abbrev pub Advances : State → List ℕ → List ℕ → State → List ℕ → Option Tpkt → List ℕ → Type 0
 Advances s held piece t now None rest = (rest ≡ []) × (now ≡ held ++ piece) × (t ≡ s) × IsPartial now
 Advances s held piece t now (Some taken) rest = (tpdu front : List ℕ) × IsTpdu tpdu × (piece ≡ front ++ rest) × (packet tpdu ≡ held ++ front) × (taken.octets ≡ length (packet tpdu)) × (tpdu_at s tpdu ≡ Ok (t, taken.tsdu)) × (now ≡ [])
 
--- it can't, as no legal TPKT stands there, or for want of memory
+-- it can't, as no legal TPKT stands there, or when out of memory
 abbrev pub FailsAt : TpFault → State → List ℕ → Type 0
 FailsAt f s input = f ≢ faults.Memory → Stops s input f
 

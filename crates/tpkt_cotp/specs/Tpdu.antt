@@ -18,7 +18,7 @@ awaited dialled = if dialled then CC else CR
 
 -- ---- the grammar
 
--- LI counts the octets of the header behind it, the code among them.
+-- LI counts the octets of the header after it, the code among them.
 abbrev pub HasHeader : ℕ → List ℕ → Type 0
 HasHeader li rest = (1 ≤ li) × (li ≤ 1 + length rest)
 
@@ -38,7 +38,7 @@ pub record IsConnection (li : ℕ) (rest : List ℕ) (cr : Cr) : Type 0 where
   pub says : cr ≡ said (src_high * 256 + src_low) parameters
 
 -- A TPDU takes a connection from one state to another and may give something: the awaited CR or CC makes it, a DT adds
--- to the open TSDU and with its end bit gives it, a DR and an ER tell that it ends.
+-- to the open TSDU and with its end bit gives it, a DR and an ER say that it ends.
 abbrev pub IsTaken : State → List ℕ → State → Option Tsdu → Type 0
 IsTaken s tpdu t (Some (Connect cr)) = (s.connected ≡ false) × (li : ℕ) × (rest : List ℕ) × (tpdu ≡ li ∷ awaited s.dialled ∷ rest) × IsConnection li rest cr × (t ≡ record { dialled = s.dialled; connected = true; tsdu = s.tsdu })
 IsTaken s tpdu t (Some (Data octets)) = (s.connected ≡ true) × (nr : ℕ) × (more : List ℕ) × (tpdu ≡ 2 ∷ DT ∷ nr ∷ more) × (END_OF_TSDU ≤ nr) × (octets ≡ s.tsdu ++ more) × (length octets ≤ 70000) × (t ≡ record { dialled = s.dialled; connected = true; tsdu = [] })

@@ -61,14 +61,14 @@ IsExponent e = ((7 ≤ e) × (e ≤ 13)) ⊎ (e ≡ 16)
 abbrev pub room : ℕ → ℕ
 room e = min (2 ^ e) 65531 - 3
 
--- The DTs of a TSDU: each but the last has as many octets as there is room for, and something follows it; the last has
+-- The DTs of a TSDU: each but the last has as many octets as there is capacity for, and something follows it; the last has
 -- the end bit.
 abbrev pub AreSegments : ℕ → List ℕ → List (List ℕ) → Type 0
 AreSegments most octets [] = ⊥
 AreSegments most octets (tpdu ∷ []) = (length octets ≤ most) × (tpdu ≡ 2 ∷ DT ∷ END_OF_TSDU ∷ octets)
 AreSegments most octets (tpdu ∷ next ∷ more) = (front rest : List ℕ) × (octets ≡ front ++ rest) × (length front ≡ most) × (0 < length rest) × (tpdu ≡ 2 ∷ DT ∷ 0 ∷ front) × AreSegments most rest (next ∷ more)
 
--- so many DTs, and the last
+-- n DTs, and the last
 abbrev pub segments_at : ℕ → ℕ → List ℕ → List (List ℕ)
 segments_at zero most octets = (2 ∷ DT ∷ END_OF_TSDU ∷ octets) ∷ []
 segments_at (suc n) most octets = (2 ∷ DT ∷ 0 ∷ take most octets) ∷ segments_at n most (drop most octets)

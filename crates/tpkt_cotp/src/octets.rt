@@ -38,7 +38,7 @@ impl Gathered {
         }
     }
 
-    /// Puts these behind the others; without memory nothing changes.
+    /// Puts these after the others; without memory nothing changes.
     pub fn append(&mut self, alloc: Global, more: &[u8]) -> Result<(), AllocError>
         ensures { self.new ≡ (if is_ok result then self.old ++ more.now else self.old) }
     {

@@ -15,7 +15,8 @@ use sv_base::Octs;
 /// Takes one parameter of a CR or a CC: the TPDU size or a selector; others are skipped (ISO 8073, variable part of
 /// a CR).
 fn put_parameter(alloc: Global, cr: &mut Cr, code: u8, value: &[u8]) -> Result<(), TpFault>
-    ensures { MatchResult result (λ _. put_at cr.old code value.now ≡ Ok cr.new) (λ f. Fails f (put_at cr.old code value.now)) }
+    ensures { MatchResult result (λ _. put_at cr.old code value.now ≡ Ok cr.new)
+        (λ f. Fails f (put_at cr.old code value.now)) }
 {
     match code {
         TPDU_SIZE => match value {
@@ -31,7 +32,8 @@ fn put_parameter(alloc: Global, cr: &mut Cr, code: u8, value: &[u8]) -> Result<(
 
 /// The first parameter's code and value and what follows it, or None where there is no octet.
 fn first_parameter(octets: &[u8]) -> Result<Option<(u8, &[u8], &[u8])>, TpFault>
-    ensures { Gives (λ x. option_map (λ p. (p.0, p.1.now, p.2.now)) x) result (parameter_at octets.now) }
+    ensures { Gives (λ x. option_map (λ p. (p.0, p.1.now, p.2.now)) x) result
+        (parameter_at octets.now) }
 {
     match octets {
         [] => Ok(None),
@@ -48,7 +50,8 @@ fn first_parameter(octets: &[u8]) -> Result<Option<(u8, &[u8], &[u8])>, TpFault>
 
 /// Takes the parameters of a CR or a CC, to the last octet.
 pub fn read_parameters(alloc: Global, cr: &mut Cr, octets: &[u8]) -> Result<(), TpFault>
-    ensures { MatchResult result (λ _. parameters_of cr.old octets.now ≡ Ok cr.new) (λ f. Fails f (parameters_of cr.old octets.now)) }
+    ensures { MatchResult result (λ _. parameters_of cr.old octets.now ≡ Ok cr.new)
+        (λ f. Fails f (parameters_of cr.old octets.now)) }
 {
     let mut rest = octets;
     while let Some((code, value, after)) = first_parameter(rest)? {

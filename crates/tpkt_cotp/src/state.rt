@@ -2,7 +2,8 @@
 
 ghost use Rattle.std.specs.Prelude.{◌≡◌, true, Ok, MatchResult};
 ghost use Rattle.tpkt_cotp.specs.Failing.{Fails};
-ghost use Rattle.tpkt_cotp.specs.Tpdu.{Steps, connection_at, connect_at, segment_at, data_at, coded_at, tpdu_at};
+ghost use Rattle.tpkt_cotp.specs.Tpdu.{Steps, connection_at, connect_at, segment_at, data_at};
+ghost use Rattle.tpkt_cotp.specs.Tpdu.{coded_at, tpdu_at};
 
 use crate::codes::{CC, CR, DR, DT, END_OF_TSDU, ER};
 use crate::fault::TpFault;
@@ -23,9 +24,10 @@ pub struct State {
     pub tsdu: Gathered,
 }
 
-/// What a CR or a CC says behind its code (ISO 8073, "Connection Request (CR) TPDU").
+/// What a CR or a CC says after its code (ISO 8073, "Connection Request (CR) TPDU").
 fn read_connection(alloc: Global, li: u8, rest: &[u8]) -> Result<Cr, TpFault>
-    ensures { MatchResult result (λ cr. connection_at li rest.now ≡ Ok cr) (λ f. Fails f (connection_at li rest.now)) }
+    ensures { MatchResult result (λ cr. connection_at li rest.now ≡ Ok cr)
+        (λ f. Fails f (connection_at li rest.now)) }
 {
     match rest {
         [_, _, c, d, class, more @ ..] => {

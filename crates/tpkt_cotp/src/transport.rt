@@ -1,6 +1,7 @@
 //! A stream, taken in pieces: what is held of a TPKT that is not whole, and what the whole ones give.
 
-ghost use Rattle.std.specs.Prelude.{◌≡◌, ℕ, Bool, true, false, List, [], ◌∷◌, ◌++◌, ◌≢◌, length, Ok, Err, is_ok, if◌then◌else◌, IfErr, MatchResult};
+ghost use Rattle.std.specs.Prelude.{◌≡◌, ℕ, Bool, true, false, List, [], ◌∷◌, ◌++◌, ◌≢◌, length};
+ghost use Rattle.std.specs.Prelude.{Ok, Err, is_ok, if◌then◌else◌, IfErr, MatchResult};
 ghost use Rattle.std.specs.Option.{option_to_list};
 ghost use Rattle.tpkt_cotp.specs.declared.fault.TpFault.{TpFault};
 ghost use Rattle.tpkt_cotp.specs.declared.fault.TpFault.TheVariants.{Memory};
@@ -9,7 +10,8 @@ ghost use Rattle.ber_grammar.specs.Octets.{IsBytes};
 ghost use Rattle.tpkt_cotp.specs.Failing.{Fails};
 ghost use Rattle.tpkt_cotp.specs.Packet.{packet, IsPartial};
 ghost use Rattle.tpkt_cotp.specs.Tpdu.{tpdu_at};
-ghost use Rattle.tpkt_cotp.specs.Stream.{TookAll, StopsAt, StandsFor, HasRefused, GoesOn, Refuses, gift, Advances, FailsAt, IsReady, StepsFrom};
+ghost use Rattle.tpkt_cotp.specs.Stream.{TookAll, StopsAt, StandsFor, HasRefused, GoesOn, Refuses};
+ghost use Rattle.tpkt_cotp.specs.Stream.{gift, Advances, FailsAt, IsReady, StepsFrom};
 ghost use Rattle.tpkt_cotp.specs.Stream.{StepFails, StepsOn, IsRefused};
 
 use crate::fault::TpFault;
@@ -22,7 +24,8 @@ use std::alloc::{AllocError, Global};
 /// Takes the TPDU of a whole TPKT.
 fn taken_of(alloc: Global, state: &mut State, tpdu: &[u8]) -> Result<Tpkt, TpFault>
     ensures { MatchResult result
-        (λ x. (x.octets ≡ length (packet tpdu.now)) × (tpdu_at state.old tpdu.now ≡ Ok (state.new, x.tsdu)))
+        (λ x. (x.octets ≡ length (packet tpdu.now))
+        × (tpdu_at state.old tpdu.now ≡ Ok (state.new, x.tsdu)))
         (λ f. Fails f (tpdu_at state.old tpdu.now)) }
 {
     let tsdu = take_tpdu(alloc, state, tpdu)?;
@@ -126,7 +129,7 @@ fn take_whole(
     Ok(())
 }
 
-/// Takes the next piece, behind what is held.
+/// Takes the next piece, after what is held.
 fn take_piece(
     alloc: Global,
     held: &mut Gathered,
@@ -197,16 +200,18 @@ impl TransportIn {
     ///
     /// Of a whole TPDU the first that is wrong counts: LI, which is 0 or passes the end (`Tpdu`); the code, which is unknown
     /// (`Tpdu`) or out of turn (`Sequence`); then what follows. Of a CR or a CC that is LI, which counts as far as the class
-    /// (`Tpdu`), the class (`Class`), and data behind the header or parameters of another form (`Tpdu`); of a DT its LI,
+    /// (`Tpdu`), the class (`Class`), and data after the header or parameters of another form (`Tpdu`); of a DT its LI,
     /// which is 2 (`Tpdu`), and the limit of the TSDU (`TsduLimit`).
     pub fn feed(&mut self, alloc: Global, piece: &[u8], out: &mut Tsdus) -> Result<(), TpFault>
         // However the stream was cut before: the object stands for it with this piece, or the stream is refused.
-        ensures stands { (dialled : Bool) (octets : List ℕ) (so_far : List Tsdu) → StandsFor self.old dialled octets so_far → MatchResult result
+        ensures stands { (dialled : Bool) (octets : List ℕ) (so_far : List Tsdu)
+            → StandsFor self.old dialled octets so_far → MatchResult result
             (λ _. GoesOn self.new dialled (octets ++ piece.now) so_far out.old out.new)
             (λ f. Refuses f dialled (octets ++ piece.now) so_far out.old out.new) }
         // What it refuses with it answers again.
         ensures refuses { IfErr result (λ f. HasRefused self.new f) }
-        ensures again { (f : TpFault) → HasRefused self.old f → (result ≡ Err f) × (self.new ≡ self.old) × (out.new ≡ out.old) }
+        ensures again { (f : TpFault) → HasRefused self.old f → (result ≡ Err f)
+            × (self.new ≡ self.old) × (out.new ≡ out.old) }
     {
         if let Some(fault) = self.refused {
             return Err(fault);
@@ -232,11 +237,13 @@ impl TransportIn {
             (λ x. StepsFrom self.old self.new piece.now x.0 x.1.now)
             (λ f. StepFails f self.old piece.now) }
         // However the stream was cut before: the object stands for it with what was taken, or the stream is refused.
-        ensures stands { (dialled : Bool) (octets : List ℕ) (so_far : List Tsdu) → StandsFor self.old dialled octets so_far → MatchResult result
+        ensures stands { (dialled : Bool) (octets : List ℕ) (so_far : List Tsdu)
+            → StandsFor self.old dialled octets so_far → MatchResult result
             (λ x. StepsOn self.new dialled octets so_far piece.now x.0 x.1.now)
             (λ f. f ≢ Memory → IsRefused dialled (octets ++ piece.now) so_far f) }
         ensures refuses { IfErr result (λ f. HasRefused self.new f) }
-        ensures again { (f : TpFault) → HasRefused self.old f → (result ≡ Err f) × (self.new ≡ self.old) }
+        ensures again { (f : TpFault) → HasRefused self.old f → (result ≡ Err f)
+            × (self.new ≡ self.old) }
     {
         if let Some(fault) = self.refused {
             return Err(fault);

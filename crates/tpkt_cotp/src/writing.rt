@@ -2,7 +2,8 @@
 
 ghost use Rattle.std.specs.Prelude.{◌≡◌, ◌+◌, ◌≤◌, ◌++◌, length, IfOk, OnOk};
 ghost use Rattle.tpkt_cotp.specs.Packet.{packet};
-ghost use Rattle.tpkt_cotp.specs.Written.{selector, size_parameter, parameters_for, IsCr, connection, confirm_of, call_of, called_with, IsExponent};
+ghost use Rattle.tpkt_cotp.specs.Written.{selector, size_parameter, parameters_for, IsCr};
+ghost use Rattle.tpkt_cotp.specs.Written.{connection, confirm_of, call_of, called_with, IsExponent};
 ghost use Rattle.tpkt_cotp.specs.Written.{room, tsdu_of};
 
 use crate::codes::{CALLED, CALLING, CC, CR, DT, END_OF_TSDU, TPDU_SIZE};

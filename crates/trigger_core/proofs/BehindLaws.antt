@@ -1,4 +1,4 @@
--- A member behind the others.
+-- A member after the others.
 use Rattle.std.proofs.Common.{◌≡◌, refl, ap, ℕ, suc, ◌<◌, nat_lt, true, List, [], ◌∷◌, ◌++◌, arith}
 use Rattle.std.proofs.lemmas.Bool.Decides.{nat_tests}
 use Rattle.std.proofs.lemmas.List.Elements.{All-tail, All-weaker, All-push}

@@ -14,7 +14,9 @@ ghost use Rattle.trigger_core.specs.Points.{AreChanges, AreShapes, trg_of, menti
 /// What is noted of a point's changes are the members and the reasons of the note of that point, as the model of the bay
 /// has it, for every block: with the shapes of its data set, and its trigger options.
 pub fn notes_are_the_definition()
-    ensures { (c : Model) (b : ℕ) (p : Point) (before : Past) (changes : List Change) (shapes : List MemberShape)
+    ensures { (c : Model) (b : ℕ) (p : Point) (before : Past) (changes : List Change)
+        (shapes : List MemberShape)
         → AreChanges c p.deed before changes → AreShapes c (members c b before) shapes
-        → noted changes (trg_of (parameters_at c b before).trg_ops) 1 shapes ≡ map mention (note_of c b p before) }
+        → noted changes (trg_of (parameters_at c b before).trg_ops) 1 shapes ≡ map mention
+        (note_of c b p before) }
 {}

@@ -1,9 +1,12 @@
 //! Which members of a data set a point is an event of, and why, by the attributes that it set.
 
-ghost use Rattle.std.specs.Prelude.{◌≡◌, ◌≤◌, ◌<◌, ◌^◌, ◌++◌, ◌∷◌, [], length, unwrap_or, option_copied};
+ghost use Rattle.std.specs.Prelude.{◌≡◌, ◌≤◌, ◌<◌, ◌^◌, ◌++◌, ◌∷◌, [], length, unwrap_or};
+ghost use Rattle.std.specs.Prelude.{option_copied};
 ghost use Rattle.std.specs.Option.{option_map};
 ghost use Rattle.bay_model.specs.Notes.{no_reason, union as union_of};
-ghost use Rattle.trigger_core.specs.Noted.{AreBelow, change_of as change_in, reasons_by as reasons_under, reasons_in as reasons_among, noted};
+ghost use Rattle.trigger_core.specs.Noted.{AreBelow, change_of as change_in};
+ghost use Rattle.trigger_core.specs.Noted.{reasons_by as reasons_under};
+ghost use Rattle.trigger_core.specs.Noted.{reasons_in as reasons_among, noted};
 
 use bay_model::{Change, MemberShape, Note, Reasons, Trg};
 use set_view::SetView;
@@ -41,7 +44,8 @@ fn change_of(changes: &[Change], attr: AttrId) -> Option<&Change>
 
 /// Reasons, and those that an attribute gives: no others where the point didn't set it.
 fn with_attr(reasons: Reasons, changes: &[Change], trg: Trg, attr: AttrId) -> Reasons
-    ensures { result ≡ union_of reasons (unwrap_or (option_map (reasons_under trg) (change_in changes.now attr)) no_reason) }
+    ensures { result ≡ union_of reasons
+        (unwrap_or (option_map (reasons_under trg) (change_in changes.now attr)) no_reason) }
 {
     match change_of(changes, attr) {
         Some(change) => reasons.union(reasons_by(trg, *change)),
@@ -61,12 +65,18 @@ fn reasons_in(changes: &[Change], trg: Trg, attrs: &[AttrId]) -> Reasons
     reasons
 }
 
-/// Adds a member behind the others, which are lower.
+/// Adds a member after the others, which are lower.
 #[tactic(auto, using(crate::proofs::BehindLaws::add_behind))]
 fn add_behind(out: &mut Note, member: MemberNo, reasons: Reasons)
     requires below { AreBelow member.0 out.old.items }
     requires room { length out.old.items < out.old.room }
-    ensures { out.new ≡ record { items = out.old.items ++ record { member = member; reasons = reasons } ∷ []; room = out.old.room } }
+    ensures { out.new ≡ record {
+      items = out.old.items ++ record {
+        member = member;
+        reasons = reasons;
+      } ∷ [];
+      room = out.old.room;
+    } }
 {
     out.add(member, reasons);
 }

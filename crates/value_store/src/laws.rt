@@ -5,7 +5,8 @@ ghost use Rattle.bay_model.specs.Attributes.{attributes};
 ghost use Rattle.bay_model.specs.Lookups.{attr_of};
 ghost use Rattle.bay_model.specs.Named.{configured_model};
 ghost use Rattle.value_store.specs.Opened.{HasDomains, is_writable, opened};
-ghost use Rattle.std.specs.Prelude.{◌≡◌, ◌<◌, ◌≤◌, ◌^◌, true, [], ◌∷◌, ℕ, List, map, length, slice_set, unwrap_or};
+ghost use Rattle.std.specs.Prelude.{◌≡◌, ◌<◌, ◌≤◌, ◌^◌, true, [], ◌∷◌, ℕ, List, map, length};
+ghost use Rattle.std.specs.Prelude.{slice_set, unwrap_or};
 ghost use Rattle.sv_base.specs.declared.value.Value.{Value};
 ghost use Rattle.bay_model.specs.declared.step.Setting.{Setting};
 ghost use Rattle.sv_base.specs.Data.{data_of};
@@ -32,46 +33,56 @@ pub fn opened_as_configured()
     ensures kinds { (c : Config) (x : ℕ) → HasDomains c → x < length (attributes c)
         → (attribute (opened c) x).held.kind ≡ (attr_of (configured_model c) x).kind }
     ensures writable { (c : Config) (x : ℕ) → HasDomains c → x < length (attributes c)
-        → (attribute (opened c) x).is_writable ≡ is_writable (attr_of (configured_model c) x).access }
+        → (attribute (opened c) x).is_writable ≡ is_writable
+        (attr_of (configured_model c) x).access }
 {}
 
 /// In a store that stands for a history the Data of a member is that of its node's whole value there, as the model of the
 /// bay has it, where the member's type and attributes are those of the node.
 pub fn members_are_whole_values()
-    ensures { (all : List Stored) (c : Model) (past : Past) (t : Tree) (kind : TypeOf) (attrs : List AttrId)
-        → Stands all c past → AreStored all attrs → HasForm t (shape_of kind) → map (λ (x : AttrId). x.0) attrs ≡ tree_attrs t
+    ensures { (all : List Stored) (c : Model) (past : Past) (t : Tree) (kind : TypeOf)
+        (attrs : List AttrId)
+        → Stands all c past → AreStored all attrs → HasForm t (shape_of kind)
+        → map (λ (x : AttrId). x.0) attrs ≡ tree_attrs t
         → member_octets all kind attrs ≡ data_of (whole c past t) }
 {}
 
 /// A store that stands for a past stands for the arrival of the next point as it is; from there, where each attribute comes to have
 /// the value that the deed gives it, and the others keep theirs, for the point itself; and as it is for a further arrival.
 pub fn values_stand()
-    ensures arrival { (all : List Stored) (c : Model) (m n : ℕ) (before : Past) → Stands all c before → Stands all c (arrival n m ∷ before) }
+    ensures arrival { (all : List Stored) (c : Model) (m n : ℕ) (before : Past)
+        → Stands all c before → Stands all c (arrival n m ∷ before) }
     ensures deed { (all new : List Stored) (c : Model) (m n : ℕ) (d : Deed) (before : Past)
         → Stands all c (arrival n m ∷ before) → length new ≡ length all
-        → ((x : ℕ) → x < length all → (attribute new x).held.value ≡ unwrap_or (gives c x d before) (attribute all x).held.value)
+        → ((x : ℕ) → x < length all → (attribute new x).held.value ≡ unwrap_or (gives c x d before)
+        (attribute all x).held.value)
         → Stands new c (record { moment = m; step = n; deed = d } ∷ before) }
-    ensures again { (all : List Stored) (c : Model) (m n : ℕ) (q : Point) (before : Past) → Stands all c (q ∷ before)
+    ensures again { (all : List Stored) (c : Model) (m n : ℕ) (q : Point) (before : Past)
+        → Stands all c (q ∷ before)
         → Stands all c (arrival n m ∷ q ∷ before) }
 {}
 
 /// A store that stands for a history stands for the longer one after a process step's attributes were set in their order.
 pub fn settings_stand()
     ensures { (all : List Stored) (c : Model) (before : Past) (p : Point) (settings : List Setting)
-        → Stands all c before → AreSettable all settings → p.deed ≡ valued settings → Stands (stored_after all settings) c (p ∷ before) }
+        → Stands all c before → AreSettable all settings → p.deed ≡ valued settings
+        → Stands (stored_after all settings) c (p ∷ before) }
 {}
 
 /// And so it does after a client's accepted write of one attribute.
 pub fn a_write_stands()
     ensures { (all : List Stored) (c : Model) (before : Past) (p : Point) (a x : ℕ) (v : Value)
-        → Stands all c before → x < length all → p.deed ≡ put a x v → Stands (slice_set all x (with_value v (attribute all x))) c (p ∷ before) }
+        → Stands all c before → x < length all → p.deed ≡ put a x v
+        → Stands (slice_set all x (with_value v (attribute all x))) c (p ∷ before) }
 {}
 
 /// The Data of a value of a type, and of a member, is no longer than the largest of the type, whose length is one that
 /// four octets spell.
 pub fn members_are_no_longer()
-    ensures leaf { (kind : TypeOf) (v : Value) → IsSettable kind → is_kind (kind_of kind) v ≡ true → is_in_range (kind_of kind) v ≡ true → largest kind < 2 ^ 32
+    ensures leaf { (kind : TypeOf) (v : Value) → IsSettable kind → is_kind (kind_of kind) v ≡ true
+        → is_in_range (kind_of kind) v ≡ true → largest kind < 2 ^ 32
         → length (data_of v) ≤ largest kind }
-    ensures member { (all : List Stored) (kind : TypeOf) (attrs : List AttrId) → AreLeaves all (shape_of kind) attrs → largest kind < 2 ^ 32
+    ensures member { (all : List Stored) (kind : TypeOf) (attrs : List AttrId)
+        → AreLeaves all (shape_of kind) attrs → largest kind < 2 ^ 32
         → length (member_octets all kind attrs) ≤ largest kind }
 {}

@@ -17,7 +17,8 @@ use sv_base::{AttrId, Part1, TypeOf};
 /// Adds the Data of an attribute.
 fn put_attr(store: &Store, attr: AttrId, out: &mut Fixed)
     requires there { IsStored store.now attr }
-    requires room { length out.old.items + length (data_of (attribute store.now attr.0).held.value) ≤ out.old.room }
+    requires room { length out.old.items + length (data_of (attribute store.now attr.0).held.value)
+        ≤ out.old.room }
     ensures { out.new ≡ adds out.old (data_of (attribute store.now attr.0).held.value) }
 {
     put_value(out, store.get(attr));
@@ -29,7 +30,8 @@ fn put_kind<'a>(store: &Store, kind: &TypeOf, attrs: &'a [AttrId], out: &mut Fix
     requires there { AreStored store.now attrs.now }
     requires enough { leaves (shape_of kind.now) ≤ length attrs.now }
     requires small { length (member_octets store.now kind.now attrs.now) < 2 ^ 32 }
-    requires room { length out.old.items + length (member_octets store.now kind.now attrs.now) ≤ out.old.room }
+    requires room { length out.old.items + length (member_octets store.now kind.now attrs.now)
+        ≤ out.old.room }
     ensures written { out.new ≡ adds out.old (member_octets store.now kind.now attrs.now) }
     ensures rest { result.now ≡ drop (leaves (shape_of kind.now)) attrs.now }
 {
@@ -59,9 +61,12 @@ fn put_parts<'a>(
 ) -> &'a [AttrId]
     requires there { AreStored store.now attrs.now }
     requires enough { leaves_in (fields_of parts.now) ≤ length attrs.now }
-    requires small { length (data_row (row_with (fields_of parts.now) (values_at store.now attrs.now))) < 2 ^ 32 }
-    requires room { length out.old.items + length (data_row (row_with (fields_of parts.now) (values_at store.now attrs.now))) ≤ out.old.room }
-    ensures written { out.new ≡ adds out.old (data_row (row_with (fields_of parts.now) (values_at store.now attrs.now))) }
+    requires small { length (data_row (row_with (fields_of parts.now)
+        (values_at store.now attrs.now))) < 2 ^ 32 }
+    requires room { length out.old.items + length
+        (data_row (row_with (fields_of parts.now) (values_at store.now attrs.now))) ≤ out.old.room }
+    ensures written { out.new ≡ adds out.old
+        (data_row (row_with (fields_of parts.now) (values_at store.now attrs.now))) }
     ensures rest { result.now ≡ drop (leaves_in (fields_of parts.now)) attrs.now }
 {
     let mut rest = attrs;
@@ -78,13 +83,15 @@ impl Store {
     ghost use Rattle.value_store.specs.Stored.{stored, AreStored};
     ghost use Rattle.value_store.specs.Written.{adds};
 
-    /// Adds the Data of a member to octets in room that was made before; gives how many these are. It takes no memory.
+    /// Adds the Data of a member to octets in memory that was allocated before; gives how many these are. It takes no memory.
     pub fn member_bytes(&self, shape: &MemberShape, out: &mut Fixed) -> u32
         requires there { AreStored self.now shape.now.attrs }
         requires whole { leaves (shape_of shape.now.kind) ≡ length shape.now.attrs }
         requires small { length (member_octets self.now shape.now.kind shape.now.attrs) < 2 ^ 32 }
-        requires room { length out.old.items + length (member_octets self.now shape.now.kind shape.now.attrs) ≤ out.old.room }
-        ensures written { out.new ≡ adds out.old (member_octets self.now shape.now.kind shape.now.attrs) }
+        requires room { length out.old.items + length
+            (member_octets self.now shape.now.kind shape.now.attrs) ≤ out.old.room }
+        ensures written { out.new ≡ adds out.old
+            (member_octets self.now shape.now.kind shape.now.attrs) }
         ensures count { result ≡ length (member_octets self.now shape.now.kind shape.now.attrs) }
     {
         let start = out.len();

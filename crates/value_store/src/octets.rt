@@ -1,9 +1,11 @@
-//! MMS Data in its minimal spelling (ISO 9506-2, Data; ITU-T X.690), into room that was made before.
+//! MMS Data in its minimal spelling (ISO 9506-2, Data; ITU-T X.690), into memory that was made before.
 
-ghost use Rattle.std.specs.Prelude.{suc, ◌≡◌, ◌≤◌, ◌<◌, ◌^◌, ◌+◌, ◌-◌, ◌*◌, ◌++◌, ◌∷◌, length, take, drop};
+ghost use Rattle.std.specs.Prelude.{suc, ◌≡◌, ◌≤◌, ◌<◌, ◌^◌, ◌+◌, ◌-◌, ◌*◌, ◌++◌, ◌∷◌, length};
+ghost use Rattle.std.specs.Prelude.{take, drop};
 ghost use Rattle.mms_data.specs.declared.tags.TheConstants.{STRUCTURE};
 ghost use Rattle.std.specs.Int.{to_be_bytes, cast_unsigned, w64};
-ghost use Rattle.sv_base.specs.Data.{length_field, element as element_of, packed, shortest as shortest_in, data_of};
+ghost use Rattle.sv_base.specs.Data.{length_field, element as element_of, packed};
+ghost use Rattle.sv_base.specs.Data.{shortest as shortest_in, data_of};
 ghost use Rattle.bay_rooms.specs.Slots.{lent};
 ghost use Rattle.value_store.specs.Written.{adds, IsShort};
 ghost use Rattle.sv_base.specs.declared.value.Value.TheVariants as values;
@@ -29,7 +31,11 @@ pub(crate) fn put_head(out: &mut Fixed, at: usize)
     requires place { at ≤ length out.old.items }
     requires small { length out.old.items - at < 2 ^ 32 }
     requires room { at + length (element_of STRUCTURE (drop at out.old.items)) ≤ out.old.room }
-    ensures { out.new ≡ record { items = take at out.old.items ++ element_of STRUCTURE (drop at out.old.items); room = out.old.room } }
+    ensures { out.new ≡ record {
+      items = take at out.old.items ++ element_of STRUCTURE
+          (drop at out.old.items);
+      room = out.old.room;
+    } }
 {
     let content = (out.len() - at) as u32;
     let octets = content.to_be_bytes();

@@ -9,7 +9,8 @@ ghost use Rattle.bay_model.specs.Configured.{groups_defined};
 ghost use Rattle.sv_base.specs.Kinds.{kind_of, is_kind, is_in_range};
 ghost use Rattle.bay_model.specs.NamedLines.{is_setting as is_setting_line};
 ghost use Rattle.bay_rooms.specs.Slots.{IsSettable};
-ghost use Rattle.value_store.specs.Opened.{HasValue, is_written, place_in, stored_line, stored_parameter, stored_control, stored_twin};
+ghost use Rattle.value_store.specs.Opened.{HasValue, is_written, place_in, stored_line};
+ghost use Rattle.value_store.specs.Opened.{stored_parameter, stored_control, stored_twin};
 ghost use Rattle.value_store.specs.Stored.{stored};
 
 use crate::store::{Cell, Store};
@@ -30,7 +31,10 @@ fn push(
     requires kind { is_kind (kind_of kind.now) value.now ≡ true }
     requires range { is_in_range (kind_of kind.now) value.now ≡ true }
     ensures { OnOk result (map stored cells.new.items ≡ map stored cells.old.items
-        ++ record { held = record { value = value.now; kind = kind_of kind.now }; is_writable = is_writable } ∷ []) }
+        ++ record {
+          held = record { value = value.now; kind = kind_of kind.now };
+          is_writable = is_writable;
+        } ∷ []) }
 {
     let slot = Slot::new(alloc, kind, value)?;
     cells.push(Cell { slot, is_writable })?;
@@ -84,7 +88,8 @@ fn push_at(
     is_writable: bool,
 ) -> Result<(), AllocError>
     requires { HasValue attr.now place }
-    ensures { OnOk result (map stored cells.new.items ≡ map stored cells.old.items ++ stored_line attr.now place is_writable ∷ []) }
+    ensures { OnOk result (map stored cells.new.items ≡ map stored cells.old.items
+        ++ stored_line attr.now place is_writable ∷ []) }
 {
     match attr.values.get(place) {
         Some(value) => push(alloc, cells, &attr.kind, value, is_writable),
@@ -117,7 +122,8 @@ fn push_lines(
 /// Adds the CF attributes that a control has besides ctlModel (IEC 61850-7-2, sboTimeout and sboClass).
 fn push_selection(alloc: Global, cells: &mut Vec<Cell>, control: &CtlDef) -> Result<(), AllocError>
     requires { control.now.class ≤ 1 }
-    ensures { OnOk result (map stored cells.new.items ≡ map stored cells.old.items ++ map stored_parameter (selection control.now)) }
+    ensures { OnOk result (map stored cells.new.items ≡ map stored cells.old.items
+        ++ map stored_parameter (selection control.now)) }
 {
     let timeout = Value::Uint(u64::from(control.timeout));
     push(
@@ -135,7 +141,8 @@ fn push_selection(alloc: Global, cells: &mut Vec<Cell>, control: &CtlDef) -> Res
 /// Adds the CF attributes of a control.
 fn push_parameters(alloc: Global, cells: &mut Vec<Cell>, control: &CtlDef) -> Result<(), AllocError>
     requires { (control.now.model ≤ 4) × (control.now.class ≤ 1) }
-    ensures { OnOk result (map stored cells.new.items ≡ map stored cells.old.items ++ stored_control control.now) }
+    ensures { OnOk result (map stored cells.new.items ≡ map stored cells.old.items
+        ++ stored_control control.now) }
 {
     let model = Value::Int(i64::from(control.model));
     push(alloc, cells, &CtlParameter::CtlModel.kind(), &model, false)?;
@@ -151,7 +158,8 @@ fn push_generated(
     controls: &[CtlDef],
 ) -> Result<(), AllocError>
     requires { All (λ (k : CtlDef). (k.model ≤ 4) × (k.class ≤ 1)) controls.now }
-    ensures { OnOk result (map stored cells.new.items ≡ map stored cells.old.items ++ flat_map stored_control controls.now) }
+    ensures { OnOk result (map stored cells.new.items ≡ map stored cells.old.items
+        ++ flat_map stored_control controls.now) }
 {
     for control in controls {
         push_parameters(alloc, cells, control)?;
@@ -161,7 +169,8 @@ fn push_generated(
 
 fn push_twin(alloc: Global, cells: &mut Vec<Cell>, attr: &AttrDef) -> Result<(), AllocError>
     requires { HasValue attr.now 0 }
-    ensures { OnOk result (map stored cells.new.items ≡ map stored cells.old.items ++ map stored_twin (filter is_setting_line (attr.now ∷ []))) }
+    ensures { OnOk result (map stored cells.new.items ≡ map stored cells.old.items
+        ++ map stored_twin (filter is_setting_line (attr.now ∷ []))) }
 {
     if is_setting(attr) {
         push_at(alloc, cells, attr, 0, false)?;
@@ -171,7 +180,8 @@ fn push_twin(alloc: Global, cells: &mut Vec<Cell>, attr: &AttrDef) -> Result<(),
 
 fn push_twins(alloc: Global, cells: &mut Vec<Cell>, attrs: &[AttrDef]) -> Result<(), AllocError>
     requires { All (λ a. HasValue a 0) attrs.now }
-    ensures { OnOk result (map stored cells.new.items ≡ map stored cells.old.items ++ map stored_twin (filter is_setting_line attrs.now)) }
+    ensures { OnOk result (map stored cells.new.items ≡ map stored cells.old.items
+        ++ map stored_twin (filter is_setting_line attrs.now)) }
 {
     for attr in attrs {
         push_twin(alloc, cells, attr)?;
@@ -184,7 +194,7 @@ impl Store {
     ghost use Rattle.value_store.specs.Opened.{IsStorable, opened};
     ghost use Rattle.value_store.specs.Stored.{stored};
 
-    /// The configured values. Each attribute has room for the largest value of its type.
+    /// The configured values. Each attribute has capacity for the largest value of its type.
     pub fn open(alloc: Global, config: &Config) -> Result<Store, AllocError>
         requires { IsStorable config.now }
         ensures { IfOk result (λ s. s ≡ opened config.now) }

@@ -66,7 +66,8 @@ impl Cell {
     /// Takes the value of a slot of the same kind.
     fn copy_from(&mut self, from: &Slot) -> Changed
         requires { from.now.kind ≡ (stored self.old).held.kind }
-        ensures differs { result.differs ≡ not (is_same from.now.value (stored self.old).held.value) }
+        ensures differs { result.differs
+            ≡ not (is_same from.now.value (stored self.old).held.value) }
         ensures set { stored self.new ≡ with_value from.now.value (stored self.old) }
     {
         Changed {
@@ -103,26 +104,29 @@ impl Store {
         self.cells[attr.0 as usize].slot.get()
     }
 
-    /// Sets the value of an attribute, as the process does or a client: tells whether it was another. It takes no memory.
+    /// Sets the value of an attribute, as the process does or a client: returns whether it was another. It takes no memory.
     ///
     /// Refuses, in this order, a value of another kind, a client's write of what clients may not write, and a value out of
     /// the type's range or above its greatest length. A refusal leaves the value as it was.
     pub fn set(&mut self, attr: AttrId, value: &Value, by_client: bool) -> Result<Changed, SetFault>
         requires { attr.0 < length self.old }
         ensures answer { result ≡ outcome (attribute self.old attr.0) value.now by_client }
-        ensures set { OnOk result (self.new ≡ slice_set self.old attr.0 (with_value value.now (attribute self.old attr.0))) }
+        ensures set { OnOk result (self.new ≡ slice_set self.old attr.0
+            (with_value value.now (attribute self.old attr.0))) }
         ensures kept { OnErr result (self.new ≡ self.old) }
     {
         self.cells[attr.0 as usize].set(value, by_client)
     }
 
-    /// Gives an attribute the value of a slot of its kind, such as that of a setting group: tells whether it was another. It
+    /// Gives an attribute the value of a slot of its kind, such as that of a setting group: returns whether it was another. It
     /// takes no memory.
     pub fn copy_from(&mut self, attr: AttrId, from: &Slot) -> Changed
         requires there { attr.0 < length self.old }
         requires kind { from.now.kind ≡ (attribute self.old attr.0).held.kind }
-        ensures differs { result.differs ≡ not (is_same from.now.value (attribute self.old attr.0).held.value) }
-        ensures set { self.new ≡ slice_set self.old attr.0 (with_value from.now.value (attribute self.old attr.0)) }
+        ensures differs { result.differs
+            ≡ not (is_same from.now.value (attribute self.old attr.0).held.value) }
+        ensures set { self.new ≡ slice_set self.old attr.0 (with_value from.now.value
+            (attribute self.old attr.0)) }
     {
         self.cells[attr.0 as usize].copy_from(from)
     }

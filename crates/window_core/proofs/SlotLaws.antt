@@ -116,7 +116,7 @@ put-spans n m zero (Some t ∷ ss) s below h i k are = (i, k, wider ss are.2)
 put-spans n m (suc j) (None ∷ ss) s below h i k are = put-spans n m j ss s (omega (arith, below)) h i k are
 put-spans n m (suc j) (Some t ∷ ss) s below h i k are = (omega (arith, are.0, h), are.1, put-spans n m j ss s (omega (arith, below)) h i k are.2)
 
--- there is room for one that isn't there
+-- there is capacity for one that isn't there
 pub room-total : (n : ℕ) (ss : List (Option Span)) → AreSpans n ss → total ss ≤ 504 * length ss
 room-total n [] are = omega arith
 room-total n (None ∷ ss) are = omega (arith, room-total n ss are)
@@ -151,7 +151,7 @@ pub total-first : (s : Option Span) (ss : List (Option Span)) → total (s ∷ s
 total-first None ss = omega arith
 total-first (Some s) ss = omega arith
 
--- so many octets are poured
+-- n octets are poured
 pub poured-length : (n : ℕ) (s : Option Span) (octets : List ℕ) → AreSpans (length octets) (s ∷ []) → length (octets_of (listed 1 (s ∷ []) octets)) ≡ total (s ∷ [])
 poured-length n None octets are = refl
 poured-length n (Some s) octets are = omega (arith, length-append (octets_at octets s) [], length-range octets s.at (s.at + s.len) (omega arith) are.0)

@@ -1,4 +1,4 @@
-//! The open group of a report block: its events are gathered under its buffer time, in room that is made at once
+//! The open group of a report block: its events are gathered under its buffer time, in memory that is made at once
 //! (IEC 61850-7-2, BRCB attribute BufTm).
 #![tactic(auto)]
 

@@ -1,9 +1,10 @@
-//! What is gathered of each member of a data set: its octets lie behind those that came before, and a slot a member says
+//! What is gathered of each member of a data set: its octets lie after those that came before, and a slot a member says
 //! where.
 
 ghost use Rattle.std.specs.Prelude.{◌≡◌, ◌≤◌, ◌+◌, ◌++◌, ◌∷◌, [], length};
 ghost use Rattle.window_core.specs.Pieces.{octets_of as octets_in};
-ghost use Rattle.window_core.specs.Slots.{listed as listed_in, total as total_of, AreSpans as AreSpansIn};
+ghost use Rattle.window_core.specs.Slots.{listed as listed_in, total as total_of};
+ghost use Rattle.window_core.specs.Slots.{AreSpans as AreSpansIn};
 
 use bay_model::Mention;
 use bay_rooms::{Fixed, MemberBytes};
@@ -20,7 +21,7 @@ struct Span {
     len: usize,
 }
 
-/// The octets of members, in room that was made before, 504 octets a member. Contracts see how many members have a slot, and
+/// The octets of members, in memory that was allocated before, 504 octets a member. Contracts see how many members have a slot, and
 /// those that are there, in the order of the data set.
 #[derive(Drop)]
 pub struct Slots {
@@ -34,17 +35,26 @@ impl Model for Slots {
 
     ghost Value = { Slotted };
 
-    ghost view = { λ s. record { members = length s.spans.items; pieces = listed 1 s.spans.items s.octets.items } };
+    ghost view = { λ s. record {
+      members = length s.spans.items;
+      pieces = listed 1 s.spans.items s.octets.items;
+    } };
 
-    ghost invariant = { λ s. (length s.spans.items ≤ 256) × (s.octets.room ≡ 504 * length s.spans.items)
-        × (length s.octets.items ≡ total s.spans.items) × AreSpans (length s.octets.items) s.spans.items };
+    ghost invariant = { λ s. (length s.spans.items ≤ 256)
+        × (s.octets.room ≡ 504 * length s.spans.items)
+        × (length s.octets.items ≡ total s.spans.items)
+        × AreSpans (length s.octets.items) s.spans.items };
 }
 
 /// Adds the octets of a span, where there is one.
 fn pour_span(octets: &[u8], span: Option<Span>, out: &mut Fixed)
     requires span { AreSpansIn (length octets.now) (span ∷ []) }
     requires room { length out.old.items + total_of (span ∷ []) ≤ out.old.room }
-    ensures { out.new ≡ record { items = out.old.items ++ octets_in (listed_in 1 (span ∷ []) octets.now); room = out.old.room } }
+    ensures { out.new ≡ record {
+      items = out.old.items ++ octets_in
+          (listed_in 1 (span ∷ []) octets.now);
+      room = out.old.room;
+    } }
 {
     if let Some(span) = span {
         out.push(&octets[span.at..span.at + span.len]);
@@ -55,7 +65,11 @@ fn pour_span(octets: &[u8], span: Option<Span>, out: &mut Fixed)
 fn pour_spans(octets: &[u8], spans: &[Option<Span>], out: &mut Fixed)
     requires span { AreSpansIn (length octets.now) spans.now }
     requires room { length out.old.items + total_of spans.now ≤ out.old.room }
-    ensures { out.new ≡ record { items = out.old.items ++ octets_in (listed_in 1 spans.now octets.now); room = out.old.room } }
+    ensures { out.new ≡ record {
+      items = out.old.items ++ octets_in
+          (listed_in 1 spans.now octets.now);
+      room = out.old.room;
+    } }
 {
     for span in spans {
         pour_span(octets, *span, out);
@@ -64,9 +78,10 @@ fn pour_spans(octets: &[u8], spans: &[Option<Span>], out: &mut Fixed)
 
 impl Slots {
     ghost use Rattle.std.specs.Prelude.{◌≡◌, ◌≤◌, ◌<◌, ◌*◌, [], true, false, length, IfOk};
-    ghost use Rattle.window_core.specs.Pieces.{insert, insert_all, is_there, octets_of, mentions, pieces, AreNumbers, AreRow};
+    ghost use Rattle.window_core.specs.Pieces.{insert, insert_all, is_there, octets_of, mentions};
+    ghost use Rattle.window_core.specs.Pieces.{pieces, AreNumbers, AreRow};
 
-    /// None of so many members is there, at most 256. It takes all the room that is ever needed.
+    /// None of n members is there, at most 256. It takes all the memory that is ever needed.
     pub fn new(alloc: Global, members: u32) -> Result<Slots, AllocError>
         requires { members ≤ 256 }
         ensures { IfOk result (λ s. s ≡ record { members = members; pieces = [] }) }
@@ -92,7 +107,10 @@ impl Slots {
         requires to { number ≤ self.old.members }
         requires short { length octets.now ≤ 504 }
         requires new { is_there number self.old.pieces ≡ false }
-        ensures { self.new ≡ record { members = self.old.members; pieces = insert (record { number = number; octets = octets.now }) self.old.pieces } }
+        ensures { self.new ≡ record {
+          members = self.old.members;
+          pieces = insert (record { number = number; octets = octets.now }) self.old.pieces;
+        } }
     {
         let at = self.octets.len();
         self.octets.push(octets);
@@ -106,7 +124,10 @@ impl Slots {
     /// takes no memory.
     pub fn pour(&mut self, out: &mut Fixed)
         requires { 504 * self.old.members ≤ out.old.room }
-        ensures poured { out.new ≡ record { items = octets_of self.old.pieces; room = out.old.room } }
+        ensures poured { out.new ≡ record {
+          items = octets_of self.old.pieces;
+          room = out.old.room;
+        } }
         ensures empty { self.new ≡ record { members = self.old.members; pieces = [] } }
     {
         out.clear();
@@ -144,7 +165,10 @@ impl Slots {
         requires row { AreRow self.old.members 0 (pieces note.now bytes.now.items) }
         requires count { length note.now ≡ length bytes.now.items }
         requires apart { mentions note.now self.old.pieces ≡ false }
-        ensures { self.new ≡ record { members = self.old.members; pieces = insert_all (pieces note.now bytes.now.items) self.old.pieces } }
+        ensures { self.new ≡ record {
+          members = self.old.members;
+          pieces = insert_all (pieces note.now bytes.now.items) self.old.pieces;
+        } }
     {
         for i in (0..note.len()).rev() {
             self.put(note[i].member.0, bytes.get(i));

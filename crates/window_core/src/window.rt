@@ -8,7 +8,7 @@ use std::marker::Model;
 use sv_base::Moment;
 
 /// The open group of a block: the members that its events mentioned since the first of them, each with what is kept of it.
-/// Contracts see how many members have room, the buffer time, and what is gathered, in the order of the data set.
+/// Contracts see how many members fit, the buffer time, and what is gathered, in the order of the data set.
 #[derive(Drop)]
 pub struct Window {
     buf_tm: u32,
@@ -30,18 +30,21 @@ impl Model for Window {
           (λ m. record { moment = m; pieces = w.slots.pieces }) w.begun;
     } };
 
-    ghost invariant = { λ w. (w.begun ≡ None → w.slots.pieces ≡ []) × (w.buf_tm ≡ 0 → w.begun ≡ None) };
+    ghost invariant = { λ w. (w.begun ≡ None → w.slots.pieces ≡ []) × (w.buf_tm ≡ 0
+        → w.begun ≡ None) };
 }
 
 impl Window {
-    ghost use Rattle.std.specs.Prelude.{◌≡◌, ◌≢◌, ◌≤◌, ◌*◌, ◌||◌, [], false, length, None, Some, IfOk, if◌then◌else◌};
+    ghost use Rattle.std.specs.Prelude.{◌≡◌, ◌≢◌, ◌≤◌, ◌*◌, ◌||◌, [], false, length, None, Some};
+    ghost use Rattle.std.specs.Prelude.{IfOk, if◌then◌else◌};
     ghost use Rattle.std.specs.Option.{option_map};
     ghost use Rattle.window_core.specs.Pieces.{pieces, AreRow, AreNumbers};
-    ghost use Rattle.window_core.specs.Windows.{empty, closed, end_of, is_over as is_over_at, over_at, after_time, closed_by, after_event, told};
+    ghost use Rattle.window_core.specs.Windows.{empty, closed, end_of, is_over as is_over_at};
+    ghost use Rattle.window_core.specs.Windows.{over_at, after_time, closed_by, after_event, told};
     ghost use Rattle.window_core.specs.Windows.{joined, is_met as is_met_in};
 
-    /// An empty window for a data set of so many members, at most 256, under a buffer time in milliseconds. It takes all the
-    /// room that it ever needs; no other call takes memory.
+    /// An empty window for a data set of n members, at most 256, under a buffer time in milliseconds. It takes all the
+    /// memory that it ever needs; no other call takes memory.
     pub fn open(alloc: Global, members: u32, buf_tm: u32) -> Result<Window, AllocError>
         requires { members ≤ 256 }
         ensures { IfOk result (λ w. w ≡ empty members buf_tm) }
@@ -81,7 +84,7 @@ impl Window {
     }
 
     /// Closes what is gathered, if anything is: gives the moment of its first event, and puts its octets into `out` in place of
-    /// what stood there, the members in the order of the data set. `out` has room for 504 octets a member. It takes no memory.
+    /// what stood there, the members in the order of the data set. `out` has capacity for 504 octets a member. It takes no memory.
     pub fn close(&mut self, out: &mut Fixed) -> Option<Moment>
         requires { 504 * self.old.members ≤ out.old.room }
         ensures told { option_map (λ m. (m, out.new.items)) result ≡ told self.old.gathered }
@@ -156,8 +159,12 @@ impl Window {
         requires numbers { AreNumbers self.old.members note.now }
         requires room { 504 * self.old.members ≤ out.old.room }
         ensures told { option_map (λ m. (m, out.new.items)) result ≡ told
-            (if is_over_at now self.old || is_met_in note.now self.old then self.old.gathered else None) }
-        ensures left { self.new ≡ record self.old { gathered = if is_over_at now self.old || is_met_in note.now self.old then None else self.old.gathered } }
+            (if is_over_at now self.old || is_met_in note.now self.old
+            then self.old.gathered else None) }
+        ensures left { self.new ≡ record self.old {
+          gathered = if is_over_at now self.old
+              || is_met_in note.now self.old then None else self.old.gathered;
+        } }
         ensures room { out.new.room ≡ out.old.room }
     {
         if self.is_over(now) || self.is_met(note) {
@@ -181,7 +188,8 @@ impl Window {
         requires row { AreRow self.old.members 0 (pieces note.now bytes.now.items) }
         requires count { length note.now ≡ length bytes.now.items }
         requires room { 504 * self.old.members ≤ out.old.room }
-        ensures told { option_map (λ m. (m, out.new.items)) result ≡ told (closed_by now (pieces note.now bytes.now.items) self.old) }
+        ensures told { option_map (λ m. (m, out.new.items)) result
+            ≡ told (closed_by now (pieces note.now bytes.now.items) self.old) }
         ensures left { self.new ≡ after_event now (pieces note.now bytes.now.items) self.old }
         ensures room { out.new.room ≡ out.old.room }
     {

@@ -14,7 +14,7 @@ longest-short (p ∷ parts) =
     let rest = All-weaker (AreShortTexts (longest_text_in parts)) (AreShortTexts all) (λ q h. (omega (arith, h.0), omega (arith, h.1))) parts (longest-short parts) in
     All-cons (AreShortTexts all) p parts (omega arith, omega arith) rest
 
--- nothing is left behind the last
+-- nothing is left after the last
 none-left : (parts : List ReportBlock) (i : ℕ) → length parts ≤ i → longest_text_in (drop i parts) ≡ 0
 none-left [] zero h = refl
 none-left [] (suc i) h = refl

@@ -5,7 +5,7 @@ use Rattle.block_reports.specs.Again.{AreKept}
 use Rattle.block_reports.proofs.AgainLaws.{Halfway}
 use Rattle.block_reports.proofs.members.members_of.Given as goal
 
--- so many members are read; what stands behind them is the spare's
+-- n members are read; what stands after them is the spare's
 abbrev pub invariant-loop-front : goal.invariant-loop-front
 invariant-loop-front l = record {
   within : l.count ≤ length l.items.items;

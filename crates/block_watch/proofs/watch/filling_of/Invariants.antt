@@ -7,7 +7,7 @@ use Rattle.report_block.specs.declared.block.ReportBlock.{ReportBlock}
 use Rattle.block_watch.specs.Watched.{members_in}
 use Rattle.block_watch.proofs.watch.filling_of.Given as goal
 
--- the members of the blocks before this one are put, and each block has the room
+-- the members of the blocks before this one are put, and each block has the memory
 abbrev pub invariant-loop-b : goal.invariant-loop-b
 invariant-loop-b l = record {
   attrs : l.filling.attrs ≡ l.attrs;

@@ -4,7 +4,7 @@ use Rattle.touch_index.specs.Gathered.{CanAdd}
 use Rattle.touch_index.specs.Gathering.{note_at, trg_at, add_touched}
 use Rattle.touch_index.proofs.gathering.gather_change.Given as goal
 
--- what is left to add, and room for it
+-- what is left to add, and memory for it
 abbrev pub invariant-loop-touch : goal.invariant-loop-touch
 invariant-loop-touch l = record {
   count : length l.out.notes ≡ length l.fn.out.notes;

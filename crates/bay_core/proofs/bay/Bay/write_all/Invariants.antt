@@ -4,7 +4,7 @@ use Rattle.bay_model.specs.Singles.{write_of}
 use Rattle.bay_core.specs.Commanded.{AreSingles}
 use Rattle.bay_core.proofs.bay.Bay.write_all.Given as goal
 
--- those before this place were written, and the errors behind it are there
+-- those before this place were written, and the errors after it are there
 abbrev pub invariant-loop-i : goal.invariant-loop-i
 invariant-loop-i l = record {
   singles : AreSingles l.fn.self l.self l.fn.a.0 (map write_of (take l.i l.fn.writes)) l.fn.heard l.heard;

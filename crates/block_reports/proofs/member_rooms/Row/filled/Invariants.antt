@@ -5,7 +5,7 @@ use Rattle.block_reports.specs.Blanks.{AreFew}
 use Rattle.block_reports.proofs.AgainLaws.{Filling}
 use Rattle.block_reports.proofs.member_rooms.Row.filled.Given as goal
 
--- so many members are read, and there is room for the others; no room is lost
+-- n members are read, and there is capacity for the others; no buffer is lost
 abbrev pub invariant-loop-front : goal.invariant-loop-front
 invariant-loop-front l = record {
   filling : (ks : List Kept) → AreFew l.fn.self.left l.fn.octets ks → Filling l.fn.model l.fn.set ks l.row l.rest;
