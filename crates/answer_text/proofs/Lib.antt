@@ -1,4 +1,2 @@
--- Texts that were added to, and what the tests of an output say.
+-- Texts that were added to.
 pub mod PrefixLaws
-pub mod SendableLaws
-pub mod FrameLaws

@@ -1,3 +1,2 @@
--- The lines of answers, and which outputs can be sent.
+-- The lines of answers.
 pub mod Texts
-pub mod Sendable

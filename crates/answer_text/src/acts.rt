@@ -5,10 +5,10 @@ ghost use Rattle.sv_base.specs.Data.{data_of};
 ghost use Rattle.bay_model.specs.Configured.{control_defined};
 ghost use Rattle.answer_text.specs.Texts.{act_line, act_lines, control_text};
 
-use crate::sendable::is_writable;
 use bay_model::Act;
 use mms_data::write_data;
 use object_model::Model;
+use output_pdus::is_writable;
 use std::alloc::{AllocError, Global};
 use stream_lines::{push_hex, push_number};
 use sv_base::{CtlDef, CtlNo, Value};

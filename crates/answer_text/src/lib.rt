@@ -8,6 +8,3 @@ mod pdus;
 mod report;
 
 pub use answer::lines_of;
-
-// whether an output has PDUs
-mod sendable;

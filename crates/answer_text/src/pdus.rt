@@ -7,12 +7,10 @@ ghost use Rattle.osi_stack.specs.Lines.{IsLine};
 ghost use Rattle.stream_lines.specs.Lines.{framed_line};
 ghost use Rattle.answer_text.specs.Texts.{pdu_line};
 
-use crate::sendable::can_be_sent;
-use bay_answers::to_bytes;
 use bay_model::Output;
 use object_model::Model;
-use osi_stack::{Line, frames};
-use report_cut::Pdus;
+use osi_stack::Line;
+use output_pdus::{pdus_of, tpkts_of};
 use std::alloc::{AllocError, Global};
 use stream_lines::{push_frame, push_hex, push_number};
 use sv_base::{AssocNo, Octs};
@@ -41,7 +39,6 @@ fn push_all(out: &mut Vec<u8>, a: AssocNo, pdus: &[Octs]) -> Result<(), AllocErr
 }
 
 /// Writes a PDU of at most 65000 octets in its frame on this line.
-#[tactic(auto, using(crate::proofs::FrameLaws::pdu_fits))]
 fn push_one(
     alloc: Global,
     out: &mut Vec<u8>,
@@ -54,7 +51,7 @@ fn push_one(
     ensures ok { OnOk result (out.new.items ≡ out.old.items ++ framed_line line a.0 pdu.now) }
     ensures err { OnErr result (take (length out.old.items) out.new.items ≡ out.old.items) }
 {
-    let octets = frames(alloc, line, pdu)?;
+    let octets = tpkts_of(alloc, line, pdu)?;
     push_frame(out, a, octets.as_slice())
 }
 
@@ -79,20 +76,6 @@ fn push_framed(
             push_framed(alloc, out, line, a, more)
         }
     }
-}
-
-/// The PDUs of an output, of at most n octets each. An output that can't be sent, which is none of a bay's, fails as want
-/// of memory does.
-fn pdus_of(alloc: Global, model: &Model, size: u32, output: &Output) -> Result<Pdus, AllocError>
-    requires least { 1024 ≤ size }
-    requires most { size ≤ 65000 }
-    ensures pdus { IfOk result (λ p. p ≡ output_pdus model.now size output.now) }
-    ensures short { IfOk result (λ p. AllByRecursion (λ o. length o ≤ size) p) }
-{
-    if !can_be_sent(model, output) {
-        return Err(AllocError);
-    }
-    to_bytes(alloc, model, output, size)
 }
 
 /// Writes what an association took whose PDUs have at most n octets.

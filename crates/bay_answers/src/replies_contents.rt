@@ -26,7 +26,7 @@ use mms_elements::tags as pdu_tags;
 use mms_pdu::write_error;
 use object_model::Model;
 use std::alloc::{AllocError, Global};
-use sv_base::{NodeId, Octs, Value};
+use sv_base::{AccessResult, NodeId, Octs};
 
 /// The response of Identify.
 pub(crate) fn identify(
@@ -83,7 +83,7 @@ fn failure_len(code: u8) -> u32
 }
 
 /// How many octets a result of a read has, and 4294967295 where there are more.
-fn result_len(one: &Result<Value, u8>) -> u32
+fn result_len(one: &AccessResult) -> u32
     ensures { result ≡ min (length (result_octets one.now)) 4294967295 }
 {
     match one {
@@ -93,7 +93,7 @@ fn result_len(one: &Result<Value, u8>) -> u32
 }
 
 /// How many octets the results of a read have, and 4294967295 where there are more.
-fn results_len(results: &[Result<Value, u8>]) -> u32
+fn results_len(results: &[AccessResult]) -> u32
     ensures { result ≡ min (length (results_octets results.now)) 4294967295 }
 {
     let mut sum = 0u32;
@@ -103,7 +103,7 @@ fn results_len(results: &[Result<Value, u8>]) -> u32
     sum
 }
 
-fn put_result(out: &mut Vec<u8>, one: &Result<Value, u8>) -> Result<(), AllocError>
+fn put_result(out: &mut Vec<u8>, one: &AccessResult) -> Result<(), AllocError>
     requires { IsWritable one.now }
     ensures { OnOk result (out.new.items ≡ out.old.items ++ result_octets one.now) }
 {
@@ -113,7 +113,7 @@ fn put_result(out: &mut Vec<u8>, one: &Result<Value, u8>) -> Result<(), AllocErr
     }
 }
 
-fn put_results(out: &mut Vec<u8>, results: &[Result<Value, u8>]) -> Result<(), AllocError>
+fn put_results(out: &mut Vec<u8>, results: &[AccessResult]) -> Result<(), AllocError>
     requires { All IsWritable results.now }
     ensures { OnOk result (out.new.items ≡ out.old.items ++ results_octets results.now) }
 {
@@ -129,7 +129,7 @@ fn put_read(
     out: &mut Vec<u8>,
     asked: &[u8],
     len: u32,
-    results: &[Result<Value, u8>],
+    results: &[AccessResult],
 ) -> Result<(), AllocError>
     requires results { All IsWritable results.now }
     requires len { len ≡ length (results_octets results.now) }
@@ -148,7 +148,7 @@ pub(crate) fn read(
     size: u32,
     invoke: u32,
     asked: &Asked,
-    results: &[Result<Value, u8>],
+    results: &[AccessResult],
 ) -> Result<Octs, AllocError>
     requires results { All IsWritable results.now }
     requires most { size ≤ 65000 }

@@ -18,7 +18,7 @@ use bay_queues::Queues;
 use bay_replies::{Read, are_too_long, asked_variables};
 use object_model::{Model, What};
 use std::alloc::{AllocError, Global};
-use sv_base::{AssocNo, CtlNo, Moment, Octs, Value};
+use sv_base::{AccessResult, AssocNo, CtlNo, Moment, Octs, Value};
 
 /// The reply to Read, where the results are these, or were cut since they are longer than a PDU of this size: the error of class
 /// service with the code pdu-size, where they are longer.
@@ -39,7 +39,7 @@ fn read_reply(size: u32, asked: Asked, read: Read) -> Reply
 }
 
 /// A read of SBO that doesn't select gives the empty text.
-fn refuse(alloc: Global, results: &mut Vec<Result<Value, u8>>, place: usize)
+fn refuse(alloc: Global, results: &mut Vec<AccessResult>, place: usize)
     ensures { results.new.items ≡ slice_set results.old.items place empty_text }
 {
     if place < results.len() {
@@ -68,7 +68,7 @@ fn read_in_turn(
     queues: &mut Queues,
     a: AssocNo,
     target: &Target,
-    results: &mut Vec<Result<Value, u8>>,
+    results: &mut Vec<AccessResult>,
     place: usize,
 )
     requires there { IsTarget model.now target.now }
@@ -96,7 +96,7 @@ fn read_all(
     queues: &mut Queues,
     a: AssocNo,
     targets: &[Target],
-    results: &mut Vec<Result<Value, u8>>,
+    results: &mut Vec<AccessResult>,
 )
     requires there { All (IsTarget model.now) targets.now }
     requires grouped { IsGrouped model.now }

@@ -11,7 +11,7 @@ use node_reads::LeafValues;
 use object_model::Leaf;
 use report_block::ReportBlock;
 use std::alloc::{AllocError, Global};
-use sv_base::{AttrId, BlockNo, Moment, Value};
+use sv_base::{AccessResult, AttrId, BlockNo, Moment};
 
 /// A component of a block, where the block is there.
 fn component_of(
@@ -20,7 +20,7 @@ fn component_of(
     comp: Comp,
     was: Moment,
     now: Moment,
-) -> Result<Result<Value, u8>, AllocError>
+) -> Result<AccessResult, AllocError>
     ensures { IfOk result (λ r. r ≡ component_read was now comp (option_copied part.entry)) }
 {
     match part {
@@ -35,7 +35,7 @@ impl<'a> Replies<'a> {
     ghost use Rattle.setting_groups.specs.Grouped.{copy_in};
 
     /// The edit copy of the SG attribute at a place among these, where somebody holds the edit.
-    fn copy_of(&self, alloc: Global, place: usize) -> Result<Result<Value, u8>, AllocError>
+    fn copy_of(&self, alloc: Global, place: usize) -> Result<AccessResult, AllocError>
         ensures { IfOk result (λ r. r ≡ copy_read (copy_in self.entry.now.groups.now place)) }
     {
         match self.groups.copy_at(place) {
@@ -45,7 +45,7 @@ impl<'a> Replies<'a> {
     }
 
     /// An attribute. The edit copies of settings stand after all that have values.
-    fn attribute(&self, alloc: Global, attr: AttrId) -> Result<Result<Value, u8>, AllocError>
+    fn attribute(&self, alloc: Global, attr: AttrId) -> Result<AccessResult, AllocError>
         ensures { IfOk result (λ r. r
             ≡ attribute_read self.entry.now.store.now self.entry.now.groups.now attr.0) }
     {
@@ -67,7 +67,7 @@ impl<'a> Replies<'a> {
         alloc: Global,
         block: BlockNo,
         comp: Comp,
-    ) -> Result<Result<Value, u8>, AllocError>
+    ) -> Result<AccessResult, AllocError>
         ensures { IfOk result (λ r. r ≡ component_read self.entry.now.was self.entry.now.now comp
             (slice_get self.entry.now.blocks.now block.0)) }
     {
@@ -86,7 +86,7 @@ impl<'a> LeafValues for Replies<'a> {
 
     ghost given = { given_by };
 
-    fn value_of(&self, alloc: Global, leaf: Leaf) -> Result<Result<Value, u8>, AllocError> {
+    fn value_of(&self, alloc: Global, leaf: Leaf) -> Result<AccessResult, AllocError> {
         match leaf {
             Leaf::Attribute(attr) => self.attribute(alloc, attr),
             Leaf::Component(block, comp) => self.component(alloc, block, comp),

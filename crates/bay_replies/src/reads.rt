@@ -9,7 +9,7 @@ use bay_model::{Results, Target, access_errors};
 use node_reads::read_node;
 use object_model::What;
 use std::alloc::{AllocError, Global};
-use sv_base::{CtlDef, NodeId, Octs, Value};
+use sv_base::{AccessResult, CtlDef, NodeId, Octs, Value};
 
 /// How many octets the empty text has, which a read of SBO gives that doesn't select.
 const EMPTY_TEXT: u32 = 2;
@@ -18,7 +18,7 @@ const EMPTY_TEXT: u32 = 2;
 #[derive(Drop)]
 pub struct Read {
     /// The results so far, in order.
-    pub results: Vec<Result<Value, u8>>,
+    pub results: Vec<AccessResult>,
     /// Values and codes are longer than a PDU, whichever reads of SBO select.
     pub is_cut: bool,
 }
@@ -61,7 +61,7 @@ impl<'a> Replies<'a> {
     }
 
     /// What a control's SBO gives where its read selects.
-    fn read_reference(&self, alloc: Global, control: u32) -> Result<Result<Value, u8>, AllocError>
+    fn read_reference(&self, alloc: Global, control: u32) -> Result<AccessResult, AllocError>
         ensures { IfOk result (λ r. r ≡ reference_read
             (slice_get self.entry.now.model.now.controls control)) }
     {
@@ -73,7 +73,7 @@ impl<'a> Replies<'a> {
 
     /// A variable that is no SBO: its value, or the code of a name that no node has, of one with alternate access, or of the node's
     /// refusal.
-    fn read_target(&self, alloc: Global, target: &Target) -> Result<Result<Value, u8>, AllocError>
+    fn read_target(&self, alloc: Global, target: &Target) -> Result<AccessResult, AllocError>
         requires { IsTarget self.now.model.now target.now }
         ensures { IfOk result (λ r. r ≡ target_read self.entry.now target.now) }
     {
@@ -85,11 +85,7 @@ impl<'a> Replies<'a> {
     }
 
     /// A variable before its turn, and how many octets its result has at least.
-    fn read_early(
-        &self,
-        alloc: Global,
-        target: &Target,
-    ) -> Result<(Result<Value, u8>, u32), AllocError>
+    fn read_early(&self, alloc: Global, target: &Target) -> Result<(AccessResult, u32), AllocError>
         requires { IsTarget self.now.model.now target.now }
         ensures { IfOk result (λ r. IsEarly self.entry.now target.now r.0 r.1) }
     {

@@ -7,10 +7,10 @@ ghost use Rattle.bay_replies.specs.Held.{left_of};
 
 use data_lengths::{data_len, element_len};
 use std::alloc::AllocError;
-use sv_base::{Octs, Value};
+use sv_base::{AccessResult, Octs};
 
 /// How many octets a result has, and 4294967295 where there are more.
-pub fn result_len(one: &Result<Value, u8>) -> u32
+pub fn result_len(one: &AccessResult) -> u32
     ensures { result ≡ min (length (access_result one.now)) 4294967295 }
 {
     match one {
@@ -20,7 +20,7 @@ pub fn result_len(one: &Result<Value, u8>) -> u32
 }
 
 /// Values and codes are longer than a PDU of this size, where it is below 4294967295.
-pub fn are_too_long(size: u32, results: &[Result<Value, u8>]) -> bool
+pub fn are_too_long(size: u32, results: &[AccessResult]) -> bool
     ensures { size < 4294967295 → result ≡ are_too_long_in size results.now }
 {
     let mut sum = 0u32;

@@ -14,11 +14,11 @@ use ber_view::{Elements, Tlv, fields, only};
 use mms_data::view_data;
 use mms_elements::{octet_of, tags};
 use std::alloc::{AllocError, Global};
-use sv_base::Value;
+use sv_base::AccessResult;
 
 /// The value of a variable that was read, or the code of why there is none.
 #[tactic(auto, unfolding(crate::specs::Results::read_at, mms_data::specs::View::view_at))]
-fn read_of(alloc: Global, field: &Tlv<'_>) -> Result<Option<Result<Value, u8>>, AllocError>
+fn read_of(alloc: Global, field: &Tlv<'_>) -> Result<Option<AccessResult>, AllocError>
     ensures { IfOk result (λ r. option_map seen_result r ≡ read_at (spot field.now)) }
 {
     if field.tag == tags::FAILURE {
@@ -67,7 +67,7 @@ fn results_of(mut fields: Elements<'_>) -> Option<Tlv<'_>>
 
 /// The one result of a read.
 #[tactic(auto, unfolding(crate::specs::Results::one_read))]
-fn read_in(alloc: Global, body: &[u8]) -> Result<Option<Result<Value, u8>>, AllocError>
+fn read_in(alloc: Global, body: &[u8]) -> Result<Option<AccessResult>, AllocError>
     ensures { IfOk result (λ r. option_map seen_result r ≡ one_read (piece body.entry)) }
 {
     let Some(fields) = fields(body) else {
@@ -87,7 +87,7 @@ fn read_in(alloc: Global, body: &[u8]) -> Result<Option<Result<Value, u8>>, Allo
 
 /// What the body of the answer to a read says of the one variable that was read (ISO 9506-2, Read-Response): its value, or the
 /// DataAccessError of why there is none. Nothing exactly where the body isn't that of an answer about one variable.
-pub fn read_result(alloc: Global, body: &[u8]) -> Result<Option<Result<Value, u8>>, AllocError>
+pub fn read_result(alloc: Global, body: &[u8]) -> Result<Option<AccessResult>, AllocError>
     ensures says { IfOk result (λ o. IfSome o (λ r. SaysRead body.now (seen_result r))) }
     ensures nothing { IfOk result (λ o. IfNone o ((r : Result Seen ℕ) → ¬ SaysRead body.now r)) }
 {

@@ -14,7 +14,10 @@ use bay_model::access_errors;
 use object_model::{Leaf, Model};
 use std::alloc::{AllocError, Global};
 use std::collections::VecDeque;
-use sv_base::{NodeId, TypeOf, Value};
+use sv_base::{AccessResult, NodeId, TypeOf, Value};
+
+/// The values of leaves, in order, or the code of the first refusal.
+type Gathered = Result<VecDeque<Value>, u8>;
 
 /// What the leaves of nodes read as.
 pub trait LeafValues {
@@ -22,7 +25,7 @@ pub trait LeafValues {
     ghost given: { Self → ModelLeaf → Result ModelValue ℕ };
 
     /// The value of an attribute or of a component of a block; or the code of the refusal (ISO 9506-2, DataAccessError).
-    fn value_of(&self, alloc: Global, leaf: Leaf) -> Result<Result<Value, u8>, AllocError>
+    fn value_of(&self, alloc: Global, leaf: Leaf) -> Result<AccessResult, AllocError>
         ensures { IfOk result (λ r. r ≡ given self.now (leaf_seen leaf)) };
 }
 
@@ -31,7 +34,7 @@ fn leaf_value<V: LeafValues>(
     alloc: Global,
     values: &V,
     leaf: Leaf,
-) -> Result<Result<Value, u8>, AllocError>
+) -> Result<AccessResult, AllocError>
     ensures { IfOk result (λ r. r ≡ leaf_at (V.given values.now) leaf) }
 {
     match leaf {
@@ -41,11 +44,7 @@ fn leaf_value<V: LeafValues>(
 }
 
 /// The values of leaves, or the first code.
-fn gather<V: LeafValues>(
-    alloc: Global,
-    values: &V,
-    leaves: &[Leaf],
-) -> Result<Result<VecDeque<Value>, u8>, AllocError>
+fn gather<V: LeafValues>(alloc: Global, values: &V, leaves: &[Leaf]) -> Result<Gathered, AllocError>
     ensures { IfOk result (λ r. queued r ≡ all_or_first
         (map (leaf_at (V.given values.now)) leaves.now)) }
 {
@@ -65,7 +64,7 @@ pub fn read_type<V: LeafValues>(
     values: &V,
     kind: &TypeOf,
     leaves: &[Leaf],
-) -> Result<Result<Value, u8>, AllocError>
+) -> Result<AccessResult, AllocError>
     ensures { IfOk result (λ r. r ≡ typed kind.now
         (all_or_first (map (leaf_at (V.given values.now)) leaves.now))) }
 {
@@ -86,7 +85,7 @@ pub fn read_node<V: LeafValues>(
     model: &Model,
     values: &V,
     node: NodeId,
-) -> Result<Result<Value, u8>, AllocError>
+) -> Result<AccessResult, AllocError>
     requires { node.0 < length (nodes model.now) }
     ensures { IfOk result (λ r. r ≡ read_by (leaf_read (V.given values.now))
         (node_of (configured_model model.now) node.0).tree) }

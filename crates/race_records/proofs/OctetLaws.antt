@@ -5,7 +5,6 @@ use Rattle.std.specs.List.{slice_split, list_all}
 use Rattle.std.specs.Option.{option_map, option_and_then}
 use Rattle.std.proofs.lemmas.List.Elements.{All-from_recursion}
 use Rattle.std.proofs.lemmas.List.Concat.{flat_map-append}
-use Rattle.std.proofs.lemmas.List.Splits.{slice_split_at, length-slice_split}
 use Rattle.sv_base.specs.declared.config.Config.{Config}
 use Rattle.bay_model.specs.Points.{least_moment}
 use Rattle.cfg_parser.specs.Looking.{config_at}
@@ -20,7 +19,7 @@ use Rattle.run_record.specs.declared.line.RecLine.TheVariants as lines
 use Rattle.run_record.proofs.ReadLaws.{line-read}
 use Rattle.record_steps.specs.Resolved.{told_of}
 use Rattle.record_steps.specs.Told.{last}
-use Rattle.record_outcome.specs.Histories.{ended_pieces, lines_of, Parted, with_line, parted, octets_of, form_of, said_in, said, moment_of, parts_in, steps_of, onto, Recorded, recorded, history_of}
+use Rattle.record_outcome.specs.Histories.{lines_of, Parted, with_line, parted, octets_of, form_of, said_in, said, moment_of, parts_in, steps_of, onto, Recorded, recorded, history_of}
 use Rattle.record_outcome.specs.Texts.{parts_of, text_behind}
 use Rattle.record_outcome.specs.Texts as texts
 use Rattle.record_outcome.specs.Records.{NoNewline}
@@ -35,25 +34,9 @@ use Rattle.script_plans.specs.declared.line.StepLine.{StepLine}
 use Rattle.race_records.specs.Merged.{lines_in, book_of, line_of, at_lines, lines_behind, moment_behind, merged, record_with}
 use Rattle.race_records.specs.ReadBack.{MergedAreReadBack}
 use Rattle.record_outcome.proofs.LineLaws.{NoTen, no-newline}
+use Rattle.record_outcome.proofs.OctetLaws.{line-more, lines-more}
 use Rattle.race_records.proofs.Listed.{book-at, onto-append}
 use Rattle.race_records.proofs.BackLaws.{at-line, turns-back, text-back}
-
--- ---- lines of octets
-
-ended-more : (line : List ℕ) (ps : List (List ℕ)) → 0 < length ps → ended_pieces (line ∷ ps) ≡ line ∷ ended_pieces ps
-ended-more line [] some = absurd (omega (arith, some))
-ended-more line (p ∷ ps) some = refl
-
-line-more : (line more : List ℕ) → NoNewline line → lines_of (line ++ 10 ∷ more) ≡ line ∷ lines_of more
-line-more line more none =
-    ap ended_pieces (slice_split_at (λ b. b == 10) line 10 more none refl)
-    ∙ ended-more line (slice_split (λ b. b == 10) more) (omega (arith, length-slice_split (λ b. b == 10) more))
-
-lines-more : (ls : List (List ℕ)) (more : List ℕ) → Each NoNewline ls → lines_of (octets_of ls ++ more) ≡ ls ++ lines_of more
-lines-more [] more none = refl
-lines-more (l ∷ ls) more none =
-    ap lines_of (append_assoc (l ++ 10 ∷ []) (octets_of ls) more ∙ append_assoc l (10 ∷ []) (octets_of ls ++ more))
-    ∙ (line-more l (octets_of ls ++ more) none.0 ∙ ap (λ (rest : List (List ℕ)). l ∷ rest) (lines-more ls more none.1))
 
 -- ---- a line that is read has no newline
 

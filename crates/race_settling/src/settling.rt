@@ -13,7 +13,7 @@ ghost use Rattle.race_settling.specs.Settled.{Performs};
 use actor_scripts::{Made, merge};
 use object_model::Model;
 use race_records::{lacks_memory, lowest_full, write_answers, write_record};
-use record_outcome::status::Status;
+use record_outcome::status::{Judged, Status};
 use script_plans::StepLine;
 use script_threads::Raced;
 use std::alloc::{AllocError, Global};
@@ -45,7 +45,7 @@ pub fn settle(
     text: &[u8],
     book: &[Vec<StepLine>],
     raced: Raced,
-) -> Result<Result<Vec<u8>, Status>, AllocError>
+) -> Judged<Vec<u8>>
     requires plan { (p : ThePlan) × (ss : List ThePart) × IsOfPlan p model.now text.now
         (book_seen book.now) ss × IsOfRace p.config ss raced }
     ensures { (p : ThePlan) (ss : List ThePart)

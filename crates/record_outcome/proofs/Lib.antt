@@ -1,5 +1,6 @@
 -- The laws of what a record comes to: its lines one after another, and the text of its history.
 pub mod LineLaws
+pub mod OctetLaws
 pub mod StatusLaws
 mod WorkedLines
 pub mod HistoryLaws

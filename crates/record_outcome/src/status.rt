@@ -1,5 +1,6 @@
 //! How a run of the program ends.
 
+use std::alloc::AllocError;
 use std::fmt::{Display, Error, Formatter, Write};
 
 /// How a run of the program ended.
@@ -22,6 +23,9 @@ pub enum Status {
     /// The sink failed.
     WriteFault,
 }
+
+/// What was made of an input, or the status with which it is refused; or that memory ran out.
+pub type Judged<T> = Result<Result<T, Status>, AllocError>;
 
 impl Status {
     ghost use Rattle.std.specs.Prelude.{◌≡◌};

@@ -13,7 +13,7 @@ use crate::plan::Plan;
 use crate::session::Session;
 use crate::stage::Stage;
 use record_outcome::limits::MOST_OCTETS;
-use record_outcome::status::Status;
+use record_outcome::status::{Judged, Status};
 use std::alloc::{AllocError, Global};
 use text_words::split_line;
 
@@ -54,13 +54,7 @@ fn planned(session: Session) -> Plan
 }
 
 /// What the reading of an input comes to, after its whole lines, or after the one with which it stopped or ended.
-fn conclude(
-    alloc: Global,
-    session: Session,
-    long: bool,
-    next: Next,
-    begun: bool,
-) -> Result<Result<Plan, Status>, AllocError>
+fn conclude(alloc: Global, session: Session, long: bool, next: Next, begun: bool) -> Judged<Plan>
     requires well { IsWell session.stage }
     requires lines { session.lines < 2 ^ 61 }
     requires decided { IsDecided next }
@@ -85,7 +79,7 @@ fn conclude(
 /// Reads the input of a rehearsal: a plan, or the status with which it is refused. Every line is checked.
 ///
 /// Fails only when out of memory.
-pub fn read_rehearsal(alloc: Global, octets: &[u8]) -> Result<Result<Plan, Status>, AllocError>
+pub fn read_rehearsal(alloc: Global, octets: &[u8]) -> Judged<Plan>
     requires { length octets.now < 2 ^ 61 }
     ensures reads { IfOk result (λ r. Reads r (outcome octets.now)) }
     ensures plan { IfOk result (λ r. HasPlan r octets.now) }

@@ -8,7 +8,7 @@ ghost use Rattle.script_reading.specs.Readings.{Starts, IsModelOf, IsSoundStart}
 use crate::plan::Plan;
 use cfg_text::{CfgFault, read_config};
 use object_model::Model;
-use record_outcome::status::Status;
+use record_outcome::status::{Judged, Status};
 use script_plans::Script;
 use std::alloc::{AllocError, Global};
 
@@ -34,7 +34,7 @@ fn no_scripts(alloc: Global) -> Result<Vec<Option<Script>>, AllocError>
 }
 
 /// The model of the configuration of this text, after n lines, or the status that refuses it.
-fn model_of(alloc: Global, before: u64, text: &[u8]) -> Result<Result<Model, Status>, AllocError>
+fn model_of(alloc: Global, before: u64, text: &[u8]) -> Judged<Model>
     requires { before < 2 ^ 62 }
     ensures { IfOk result (λ found. IsModelOf before found (config_at text.now)) }
 {

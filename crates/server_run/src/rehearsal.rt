@@ -18,7 +18,7 @@ use bay_races::race_over;
 use object_model::Model;
 use race_settling::{cast_scripts, settle};
 use record_outcome::limits::MOST_OCTETS;
-use record_outcome::status::Status;
+use record_outcome::status::{Judged, Status};
 use script_plans::StepLine;
 use script_reading::{MOST_SCRIPTS, Plan, read_rehearsal};
 use std::alloc::{AllocError, Global};
@@ -37,7 +37,7 @@ fn play_cast<R: Threads + Wait + Sync, G: Gate>(
     text: &[u8],
     book: &[Vec<StepLine>],
     actors: Vec<Actor<G>>,
-) -> Result<Result<Vec<u8>, Status>, AllocError>
+) -> Judged<Vec<u8>>
     requires plan { (p : ThePlan) × IsOfPlan p model.now text.now (book_seen book.now)
         (map (λ a. a.script) actors.items) }
     ensures { (p : ThePlan) → IsOfPlan p model.now text.now (book_seen book.now)
@@ -53,7 +53,7 @@ fn perform<R: Threads + Wait + Sync, G: Gate>(
     alloc: Global,
     plan: Plan,
     gates: Vec<G>,
-) -> Result<Result<Vec<u8>, Status>, AllocError>
+) -> Judged<Vec<u8>>
     requires sound { IsSound (plan_seen plan) }
     requires gates { length gates.items ≡ 16 }
     ensures { IfOk result (Performs (plan_seen plan)) }
@@ -77,7 +77,7 @@ fn perform_input<R: Threads + Wait + Sync, G: Gate>(
     alloc: Global,
     gates: Vec<G>,
     octets: Vec<u8>,
-) -> Result<Result<Vec<u8>, Status>, AllocError>
+) -> Judged<Vec<u8>>
     requires octets { length octets.items ≤ 67108865 }
     requires gates { length gates.items ≡ 16 }
     ensures { IfOk result (PerformsInput (outcome octets.items)) }
@@ -93,7 +93,7 @@ fn perform_input<R: Threads + Wait + Sync, G: Gate>(
 }
 
 /// Writes what a race came to, if it came to a record with its answers: the status.
-fn deliver<K: Sink>(performed: Result<Result<Vec<u8>, Status>, AllocError>, sink: &mut K) -> Status
+fn deliver<K: Sink>(performed: Judged<Vec<u8>>, sink: &mut K) -> Status
     requires { (o : Outcome) × IfOk performed (PerformsInput o) }
     ensures rehearses { (o : Outcome) → IfOk performed (PerformsInput o)
         → Rehearses o result (K.taken sink.old) (K.taken sink.new) }

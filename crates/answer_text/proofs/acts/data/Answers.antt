@@ -1,6 +1,6 @@
 -- why `acts::data` answers as its contract says
 use Rattle.std.proofs.Common.{sym, ◌∙◌}
-use Rattle.answer_text.proofs.SendableLaws.{writable}
+use Rattle.output_pdus.proofs.SendableLaws.{writable}
 use Rattle.answer_text.proofs.acts.data.Goals as goal
 
 pub write_data-requires : goal.write_data-requires

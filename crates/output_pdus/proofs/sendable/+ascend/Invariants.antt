@@ -1,6 +1,6 @@
 -- why `sendable::ascend` ends
 use Rattle.std.proofs.Common.{length}
-use Rattle.answer_text.proofs.sendable.+ascend.Given as goal
+use Rattle.output_pdus.proofs.sendable.+ascend.Given as goal
 
 abbrev pub decreases-ascend : goal.decreases-ascend
 decreases-ascend l = length l.members.now

@@ -8,20 +8,20 @@ ghost use Rattle.mms_data.specs.Grammar.{IsSpelled};
 ghost use Rattle.output_shapes.specs.Shapes.{Ascend, IsShort, HasData, CanBeCut, HasShortName};
 ghost use Rattle.output_shapes.specs.Shapes.{IsShortError, IsShortTermination, IsNode, IsWritable};
 ghost use Rattle.output_shapes.specs.Shapes.{CanBeReplied, CanBeSent};
-ghost use Rattle.answer_text.specs.Sendable.{is_seen_writable, are_writable as are_row_writable};
-ghost use Rattle.answer_text.specs.Sendable.{is_result_writable as is_written_result};
-ghost use Rattle.answer_text.specs.Sendable.{are_nodes as are_nodes_below};
+ghost use Rattle.output_pdus.specs.Sendable.{is_seen_writable, are_writable as are_row_writable};
+ghost use Rattle.output_pdus.specs.Sendable.{is_result_writable as is_written_result};
+ghost use Rattle.output_pdus.specs.Sendable.{are_nodes as are_nodes_below};
 
 use bay_model::{ApplError, Member, Output, Reply, Report, Termination};
 use ber_view::whole;
 use data_lengths::data_len;
 use mms_data::view_data;
 use object_model::Model;
-use sv_base::{CtlDef, NodeId, Value, rejections};
+use sv_base::{AccessResult, CtlDef, NodeId, Value, rejections};
 
-/// Whether a value has a spelling as Data, at most so deep.
+/// Whether a value has Data at most so deep (ISO 9506-2, Data).
 #[cycle(writable)]
-pub(crate) fn is_writable(value: &Value, depth: u8) -> bool
+pub fn is_writable(value: &Value, depth: u8) -> bool
     ensures { result ≡ is_seen_writable depth (seen_of value.now) }
 {
     if depth == 0 {
@@ -47,7 +47,7 @@ fn are_writable(values: &[Value], depth: u8) -> bool
     true
 }
 
-fn is_result_writable(one: &Result<Value, u8>) -> bool
+fn is_result_writable(one: &AccessResult) -> bool
     ensures { result ≡ is_written_result one.now }
 {
     match one {
@@ -56,7 +56,7 @@ fn is_result_writable(one: &Result<Value, u8>) -> bool
     }
 }
 
-fn are_results_writable(results: &[Result<Value, u8>]) -> bool
+fn are_results_writable(results: &[AccessResult]) -> bool
     ensures { result ≡ list_all is_written_result results.now }
 {
     for one in results {

@@ -1,6 +1,6 @@
 -- why `sendable::can_be_replied` answers as its contract says
-use Rattle.answer_text.proofs.SendableLaws.{results-test, node-test, nodes-test}
-use Rattle.answer_text.proofs.sendable.can_be_replied.Goals as goal
+use Rattle.output_pdus.proofs.SendableLaws.{results-test, node-test, nodes-test}
+use Rattle.output_pdus.proofs.sendable.can_be_replied.Goals as goal
 
 pub returns-in-TypeOfNode : goal.returns-in-TypeOfNode
 returns-in-TypeOfNode c = node-test c.args.model.now c.args.reply.now c.in-TypeOfNode.node c.len.result c.nodes.result.now c.in-TypeOfNode.is c.len.ensures c.nodes.ensures

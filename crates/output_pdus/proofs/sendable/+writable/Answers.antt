@@ -2,9 +2,9 @@
 use Rattle.std.proofs.Common.{◌-◌, ap, arith, sym, ◌∙◌}
 use Rattle.sv_base.specs.declared.value.Values.TheDeep.{size-Value}
 use Rattle.sv_base.proofs.SizeLaws.{most-size-lt}
-use Rattle.answer_text.specs.Sendable.{are_writable}
-use Rattle.answer_text.proofs.SendableLaws.{structure-writable}
-use Rattle.answer_text.proofs.sendable.+writable.Goals as goal
+use Rattle.output_pdus.specs.Sendable.{are_writable}
+use Rattle.output_pdus.proofs.SendableLaws.{structure-writable}
+use Rattle.output_pdus.proofs.sendable.+writable.Goals as goal
 
 pub is_writable-are_writable-requires : goal.is_writable-are_writable-requires
 is_writable-are_writable-requires t c = (omega (arith, c.decreases, ap size-Value c.in-Struct.is, most-size-lt c.as_slice.result.now c.in-Struct.values c.as_slice.ensures.row), tt)

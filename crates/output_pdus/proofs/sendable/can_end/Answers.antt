@@ -4,9 +4,9 @@ use Rattle.std.specs.Prelude.{Some, slice_get}
 use Rattle.std.proofs.lemmas.Bool.Decides.{nat_tests}
 use Rattle.sv_base.specs.Data.{data_of}
 use Rattle.sv_base.specs.declared.config.Config.{Config}
-use Rattle.answer_text.proofs.SendableLaws.{ends}
-use Rattle.answer_text.proofs.sendable.can_end.Goals as goal
-use Rattle.answer_text.proofs.sendable.can_end.Goals.{then-has_short_name, else-has_short_name, then-is_short_where_there, else-is_short_where_there}
+use Rattle.output_pdus.proofs.SendableLaws.{ends}
+use Rattle.output_pdus.proofs.sendable.can_end.Goals as goal
+use Rattle.output_pdus.proofs.sendable.can_end.Goals.{then-has_short_name, else-has_short_name, then-is_short_where_there, else-is_short_where_there}
 
 pub returns-then-is_writable : goal.returns-then-is_writable
 returns-then-is_writable c = λ low.

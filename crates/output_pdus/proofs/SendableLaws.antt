@@ -30,7 +30,7 @@ use Rattle.bay_model.specs.declared.reply.Reply.{Reply}
 use Rattle.bay_model.specs.declared.reply.Reply.TheVariants as replies
 use Rattle.bay_model.specs.declared.tables.NodeRow.{NodeRow}
 use Rattle.output_shapes.specs.Shapes.{HasShortName, IsShortError, IsShortTermination, IsWritable, IsNode, CanBeReplied}
-use Rattle.answer_text.specs.Sendable.{is_plain_writable, is_seen_writable, are_writable, is_result_writable, are_nodes}
+use Rattle.output_pdus.specs.Sendable.{is_plain_writable, is_seen_writable, are_writable, is_result_writable, are_nodes}
 use Rattle.list_laws.proofs.Truths.{and-both as both}
 
 plain-tells : (p : Plain) → is_plain_writable p ≡ true → IsNotOther p × IsFraction p

@@ -1,6 +1,6 @@
 -- why `sendable::are_members` ends
 use Rattle.std.proofs.Common.{length}
-use Rattle.answer_text.proofs.sendable.+are_members.Given as goal
+use Rattle.output_pdus.proofs.sendable.+are_members.Given as goal
 
 abbrev pub decreases-are_members : goal.decreases-are_members
 decreases-are_members l = length l.members.now

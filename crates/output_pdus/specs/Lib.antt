@@ -1,0 +1,2 @@
+-- Which outputs can be sent, as a test.
+pub mod Sendable
