@@ -1,5 +1,5 @@
 -- Each step keeps the rule.
-use Rattle.std.proofs.Common.{◌≡◌, ℕ, ◌+◌, ◌%◌, ◌^◌, ◌<◌, ◌≤◌, ◌≢◌, ◌⊎◌, List, [], ◌∷◌, ◌++◌, length, get_or, set, sym, refl, ap, ◌∙◌, subst, inl, inr, ⊎_elim, arith, Option, Some}
+use Rattle.std.proofs.Common.{◌≡◌, ℕ, zero, suc, ◌+◌, ◌%◌, ◌^◌, ◌<◌, ◌≤◌, ◌≢◌, ◌⊎◌, List, [], ◌∷◌, ◌++◌, length, get_or, set, length-set, sym, refl, ap, ◌∙◌, subst, inl, inr, ⊎_elim, arith, Option, Some}
 use mathlib.Core.Logic.{dite}
 use mathlib.Core.Option.{none, some}
 use native.Mathlib.Decide.{ℕ_discrete, dec_le}
@@ -15,7 +15,7 @@ use Rattle.bay_histories.specs.Rules.{Rules}
 use Rattle.bay_histories.specs.Histories.{by, IsLegal}
 use Rattle.history_lock.specs.Views.{Stands, total, hit, has, has_phase, ticket_of, busy, busy_phase, added, added_phase, mine, aside_of, holds_number, left_of}
 use Rattle.history_lock.specs.Rule.{FollowsRule, Fits, FitsPhase, Table}
-use Rattle.history_lock.specs.Plays.{Seated, drawn, draws, served, looks, extended, appends, resting, passes, counts}
+use Rattle.history_lock.specs.Plays.{Seated, drawn, draws, served, looks, extended, appends, resting, passes, rings, counts}
 use Rattle.history_lock.proofs.Sums.{total-set, term_le, terms_le, total_mono, total_less, is_one, is_zero}
 use Rattle.history_lock.proofs.Steps.{by-append, by_none, nothing_more, earlier_more}
 
@@ -92,7 +92,9 @@ module _ {M : Type 0} (rules : Rules) (stands : Stands M) where
           ticket = k.ticket + 1;
           serving = k.serving;
           log = k.log;
-          words = ap (λ (x : ℕ). x ∷ k.serving ∷ length k.log ∷ []) fits;
+          bells = k.bells;
+          words = ap (λ (x : ℕ). x ∷ k.serving ∷ length k.log ∷ k.bells) fits;
+          sixteen = k.sixteen;
           waiting = λ t from below. dite (ℕ_discrete k.ticket t)
               (λ e. omega (arith, moved (has t), before t, is_one k.ticket t e, k.undrawn t (omega arith)))
               (λ ne. omega (arith, moved (has t), before t, is_zero k.ticket t ne, k.waiting t from (omega arith)));
@@ -115,7 +117,7 @@ module _ {M : Type 0} (rules : Rules) (stands : Stands M) where
   -- the seat whose ticket is served sees the whole history, and takes the machine
   served_now : (actors : ℕ) (config : Config) (n id : ℕ) (m : Seated M) (t : ℕ) → m.0.phase ≡ Drawn t → (s : Table M) (k : FollowsRule rules stands actors config s)
       → length s.homes ≡ n → get_elem? s.views id ≡ some m.0 → k.serving ≡ t
-      → Goes actors config s 1 (λ x. x) id m (looks stands (step n 1 0 0 none) m) (k.ticket ∷ k.serving ∷ length k.log ∷ [])
+      → Goes actors config s 1 (λ x. x) id m (looks stands (step n 1 0 0 none) m) (k.ticket ∷ k.serving ∷ length k.log ∷ k.bells)
   served_now actors config n id m t waits s k long at here =
       let v : View = m.0 in
       let me = k.seats id v at in
@@ -145,7 +147,9 @@ module _ {M : Type 0} (rules : Rules) (stands : Stands M) where
           ticket = k.ticket;
           serving = k.serving;
           log = k.log;
+          bells = k.bells;
           words = refl;
+          sixteen = k.sixteen;
           waiting = λ x from below. omega (arith, moved (has x), phase x, ap (λ (y : ℕ). hit y x) here, k.waiting x from below);
           served = λ x below. omega (arith, moved (has x), phase x, ap (λ (y : ℕ). hit y x) here, k.served x below);
           undrawn = λ x from. omega (arith, moved (has x), phase x, ap (λ (y : ℕ). hit y x) here, k.undrawn x from);
@@ -187,14 +191,14 @@ module _ {M : Type 0} (rules : Rules) (stands : Stands M) where
   -- a look that changes nothing
   not_yet : (actors : ℕ) (config : Config) (n id : ℕ) (m : Seated M) (t : ℕ) → m.0.phase ≡ Drawn t → (s : Table M) (k : FollowsRule rules stands actors config s)
       → get_elem? s.views id ≡ some m.0 → k.serving ≢ t
-      → Goes actors config s 1 (λ x. x) id m (looks stands (step n 1 0 0 none) m) (k.ticket ∷ k.serving ∷ length k.log ∷ [])
+      → Goes actors config s 1 (λ x. x) id m (looks stands (step n 1 0 0 none) m) (k.ticket ∷ k.serving ∷ length k.log ∷ k.bells)
   not_yet actors config n id m t waits s k at other =
-      let same : FollowsRule rules stands actors config (record { words = k.ticket ∷ k.serving ∷ length k.log ∷ []; homes = s.homes; views = s.views }) =
+      let same : FollowsRule rules stands actors config (record { words = k.ticket ∷ k.serving ∷ length k.log ∷ k.bells; homes = s.homes; views = s.views }) =
       subst (λ (ws : List ℕ). FollowsRule rules stands actors config (record { words = ws; homes = s.homes; views = s.views })) k.words k in (
         m.0,
         keeps,
         tt,
-        subst (λ (vs : List View). FollowsRule rules stands actors config (record { words = k.ticket ∷ k.serving ∷ length k.log ∷ []; homes = s.homes; views = vs }))
+        subst (λ (vs : List View). FollowsRule rules stands actors config (record { words = k.ticket ∷ k.serving ∷ length k.log ∷ k.bells; homes = s.homes; views = vs }))
             (sym (set_again s.views id m.0 at)) same,
         ((λ e. absurd (other (e ∙ ap ticket_of waits))), λ _. refl),
       )
@@ -247,7 +251,9 @@ module _ {M : Type 0} (rules : Rules) (stands : Stands M) where
           ticket = k.ticket;
           serving = k.serving;
           log = log;
-          words = ap (λ (x : ℕ). k.ticket ∷ k.serving ∷ x ∷ []) wraps;
+          bells = k.bells;
+          words = ap (λ (x : ℕ). k.ticket ∷ k.serving ∷ x ∷ k.bells) wraps;
+          sixteen = k.sixteen;
           waiting = λ x from below. omega (arith, moved (has x), phase x, phase' x, k.waiting x from below);
           served = λ x below. omega (arith, moved (has x), phase x, phase' x, k.served x below);
           undrawn = λ x from. omega (arith, moved (has x), phase x, phase' x, k.undrawn x from);
@@ -309,7 +315,9 @@ module _ {M : Type 0} (rules : Rules) (stands : Stands M) where
           ticket = k.ticket;
           serving = k.serving + 1;
           log = k.log;
-          words = ap (λ (x : ℕ). k.ticket ∷ x ∷ length k.log ∷ []) wraps;
+          bells = k.bells;
+          words = ap (λ (x : ℕ). k.ticket ∷ x ∷ length k.log ∷ k.bells) wraps;
+          sixteen = k.sixteen;
           waiting = λ x from below. omega (arith, moved (has x), fits.1 x, is_zero k.serving x (λ e. omega arith), k.waiting x (omega arith) below);
           served = λ x below. dite (ℕ_discrete k.serving x)
               (λ e. omega (arith, moved (has x), fits.1 x, is_one k.serving x e, only, ap (λ (y : ℕ). total (has y) s.views) e))
@@ -351,18 +359,55 @@ module _ {M : Type 0} (rules : Rules) (stands : Stands M) where
       subst (λ (x : Seated M). Allows (FollowsRule rules stands actors config) 1 id x 1 (λ y. (y + 1) % 2 ^ 64) (passes (step 1 1 1 0 none) x)) same
       (passes_at actors config id v machine config' busy_now is standing)
 
+  -- a bell is any number
+  pub rings_kept : (actors : ℕ) (config : Config) (n id : ℕ) (m : Seated M) (bell : ℕ) → 3 ≤ bell
+      → Allows (FollowsRule rules stands actors config) n id m bell (λ x. (x + 1) % 2 ^ 64) (rings (step n bell 1 0 none) m)
+  rings_kept actors config n id m zero from s k long at _ = absurd (omega arith)
+  rings_kept actors config n id m (suc zero) from s k long at _ = absurd (omega arith)
+  rings_kept actors config n id m (suc (suc zero)) from s k long at _ = absurd (omega arith)
+  rings_kept actors config n id m (suc (suc (suc j))) from s k long at _ =
+      let bells : List ℕ = set k.bells j ((get_or k.bells j 0 + 1) % 2 ^ 64) in
+      let rung : FollowsRule rules stands actors config (record { words = k.ticket ∷ k.serving ∷ length k.log ∷ bells; homes = s.homes; views = s.views }) = record {
+        ticket = k.ticket;
+        serving = k.serving;
+        log = k.log;
+        bells = bells;
+        words = refl;
+        sixteen = length-set k.bells j ((get_or k.bells j 0 + 1) % 2 ^ 64) ∙ k.sixteen;
+        waiting = k.waiting;
+        served = k.served;
+        undrawn = k.undrawn;
+        room = k.room;
+        order = k.order;
+        few = k.few;
+        home = k.home;
+        seats = k.seats;
+        apart = k.apart;
+        given = k.given;
+        unmade = k.unmade;
+        legal = k.legal;
+      } in
+      subst (Goes actors config s (suc (suc (suc j))) (λ x. (x + 1) % 2 ^ 64) id m (rings (step n (suc (suc (suc j))) 1 0 none) m)) (sym k.words) (
+        m.0,
+        keeps,
+        tt,
+        subst (λ (vs : List View). FollowsRule rules stands actors config (record { words = k.ticket ∷ k.serving ∷ length k.log ∷ bells; homes = s.homes; views = vs }))
+            (sym (set_again s.views id m.0 at)) rung,
+        refl,
+      )
+
   pub counts_kept : (actors : ℕ) (config : Config) (n id : ℕ) (m : Seated M) → busy m.0 ≡ 1
       → Allows (FollowsRule rules stands actors config) n id m 2 (λ x. x) (counts (step n 2 0 0 none) m)
   counts_kept actors config n id m busy_now s k long at _ =
       let me = k.seats id m.0 at in
       let fits = busy_fits k.serving k.log m.0.seen m.0.phase busy_now me.phase in
-      let same : FollowsRule rules stands actors config (record { words = k.ticket ∷ k.serving ∷ length k.log ∷ []; homes = s.homes; views = s.views }) =
+      let same : FollowsRule rules stands actors config (record { words = k.ticket ∷ k.serving ∷ length k.log ∷ k.bells; homes = s.homes; views = s.views }) =
       subst (λ (ws : List ℕ). FollowsRule rules stands actors config (record { words = ws; homes = s.homes; views = s.views })) k.words k in
       subst (Goes actors config s 2 (λ x. x) id m (counts (step n 2 0 0 none) m)) (sym k.words) (
         m.0,
         keeps,
         tt,
-        subst (λ (vs : List View). FollowsRule rules stands actors config (record { words = k.ticket ∷ k.serving ∷ length k.log ∷ []; homes = s.homes; views = vs }))
+        subst (λ (vs : List View). FollowsRule rules stands actors config (record { words = k.ticket ∷ k.serving ∷ length k.log ∷ k.bells; homes = s.homes; views = vs }))
             (sym (set_again s.views id m.0 at)) same,
         (refl, ap length (sym fits.0)),
       )

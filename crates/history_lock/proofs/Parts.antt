@@ -1,5 +1,5 @@
 -- The start, seats that are cut and joined, and the end.
-use Rattle.std.proofs.Common.{◌≡◌, ℕ, zero, suc, ◌+◌, ◌-◌, ◌<◌, ◌≤◌, ◌≢◌, List, [], ◌∷◌, ◌++◌, length, set, sym, refl, ap, ◌∙◌, subst, inl, inr, ⊎_elim, arith, cond, Option, Some, append-nil, ltb, lt-ltb, le-ltb, eq-eqb}
+use Rattle.std.proofs.Common.{◌≡◌, ℕ, zero, suc, ◌+◌, ◌-◌, ◌<◌, ◌≤◌, ◌≢◌, List, [], ◌∷◌, ◌++◌, length, set, sym, refl, ap, ◌∙◌, subst, inl, inr, ⊎_elim, arith, cond, Option, Some, append-nil, replicate, ltb, lt-ltb, le-ltb, eq-eqb}
 use mathlib.Core.Logic.{dite}
 use mathlib.Core.Option.{none, some, some-injective, some-ne-none}
 use native.Mathlib.Decide.{dec_le}
@@ -74,12 +74,14 @@ longer_fits log xs ys p q =
 
 module _ {M : Type 0} (rules : Rules) (stands : Stands M) where
   pub opens : (actors : ℕ) (config : Config) (machine : M) → stands machine config []
-      → FollowsRule rules stands actors config (opening (0 ∷ 0 ∷ 0 ∷ []) (Some machine ∷ []) (whole actors config))
+      → FollowsRule rules stands actors config (opening (replicate 19 0) (Some machine ∷ []) (whole actors config))
   opens actors config machine begins = record {
     ticket = 0;
     serving = 0;
     log = [];
+    bells = replicate 16 0;
     words = refl;
+    sixteen = refl;
     waiting = λ t from below. absurd (omega arith);
     served = λ t below. absurd (omega arith);
     undrawn = λ t from. refl;
@@ -133,7 +135,9 @@ module _ {M : Type 0} (rules : Rules) (stands : Stands M) where
         ticket = k.ticket;
         serving = k.serving;
         log = k.log;
+        bells = k.bells;
         words = k.words;
+        sixteen = k.sixteen;
         waiting = λ t from below. omega (arith, moved (has t), k.waiting t from below);
         served = λ t below. omega (arith, moved (has t), k.served t below);
         undrawn = λ t from. omega (arith, moved (has t), k.undrawn t from);
@@ -184,7 +188,9 @@ module _ {M : Type 0} (rules : Rules) (stands : Stands M) where
         ticket = k.ticket;
         serving = k.serving;
         log = k.log;
+        bells = k.bells;
         words = k.words;
+        sixteen = k.sixteen;
         waiting = λ t from below. omega (arith, moved (has t), ap (has_phase t) idle, ap (has_phase t) idle', k.waiting t from below);
         served = λ t below. omega (arith, moved (has t), ap (has_phase t) idle, ap (has_phase t) idle', k.served t below);
         undrawn = λ t from. omega (arith, moved (has t), ap (has_phase t) idle, ap (has_phase t) idle', k.undrawn t from);
@@ -233,7 +239,9 @@ module _ {M : Type 0} (rules : Rules) (stands : Stands M) where
           ticket = k.ticket;
           serving = k.serving;
           log = k.log;
+          bells = k.bells;
           words = refl;
+          sixteen = k.sixteen;
           waiting = λ t from below. omega (arith, moved (has t), k.waiting t from below);
           served = λ t below. omega (arith, moved (has t), k.served t below);
           undrawn = λ t from. omega (arith, moved (has t), k.undrawn t from);
@@ -277,7 +285,9 @@ module _ {M : Type 0} (rules : Rules) (stands : Stands M) where
         ticket = k.ticket;
         serving = k.serving;
         log = k.log;
+        bells = k.bells;
         words = k.words;
+        sixteen = k.sixteen;
         waiting = λ t from below. omega (arith, moved (has t), k.waiting t from below);
         served = λ t below. omega (arith, moved (has t), k.served t below);
         undrawn = λ t from. omega (arith, moved (has t), k.undrawn t from);
@@ -329,7 +339,9 @@ module _ {M : Type 0} (rules : Rules) (stands : Stands M) where
           ticket = k.ticket;
           serving = k.serving;
           log = k.log;
+          bells = k.bells;
           words = refl;
+          sixteen = k.sixteen;
           waiting = λ t from below. omega (arith, moved (has t), k.waiting t from below);
           served = λ t below. omega (arith, moved (has t), k.served t below);
           undrawn = λ t from. omega (arith, moved (has t), k.undrawn t from);
@@ -378,7 +390,7 @@ module _ {M : Type 0} (rules : Rules) (stands : Stands M) where
   closes actors config id v ws xs f =
       let s = f.0 in
       let k = f.1.0 in
-      let words : k.ticket ∷ k.serving ∷ length k.log ∷ [] ≡ ws = sym k.words ∙ f.2 in (
+      let words : k.ticket ∷ k.serving ∷ length k.log ∷ k.bells ≡ ws = sym k.words ∙ f.2 in (
         k.log,
         subst (λ (l : List ℕ). get_elem? l 2 ≡ some (length k.log)) words refl,
         (k.seats id v f.1.1).front,

@@ -51,6 +51,10 @@ resting v = moved_to v v.left Idle v.seen
 abbrev pub passes : {M : Type 0} → Play M
 passes st m r n = n ≡ (resting m.0, rest m.1)
 
+-- a bell is rung, which tells the seat nothing
+abbrev pub rings : {M : Type 0} → Play M
+rings st m r n = n ≡ m
+
 -- the seat keeps the lower numbers of its first range
 abbrev pub kept_ranges : List (ℕ × ℕ) → ℕ → List (ℕ × ℕ)
 kept_ranges [] n = []

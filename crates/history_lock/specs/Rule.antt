@@ -1,5 +1,5 @@
--- The rule of the lock: of its words ticket, serving and count, of the machine where it is at home, and of what the seats know.
-use Rattle.std.specs.Prelude.{ℕ, ◌≡◌, ◌+◌, ◌<◌, ◌≤◌, ◌^◌, [], ◌∷◌, length, Option, Some, None}
+-- The rule of the lock: of its words ticket, serving, count and the bells, of the machine where it is at home, and of what the seats know.
+use Rattle.std.specs.Prelude.{ℕ, ◌≡◌, ◌+◌, ◌<◌, ◌≤◌, ◌^◌, List, [], ◌∷◌, length, Option, Some, None}
 use mathlib.Core.Option.{some}
 use lib.ListN.{get_elem?}
 use Rattle.atomic_table.specs.Table.{State}
@@ -39,7 +39,10 @@ pub record FollowsRule {M : Type 0} (rules : Rules) (stands : Stands M) (actors 
   pub ticket : ℕ
   pub serving : ℕ
   pub log : History
-  pub words : s.words ≡ ticket ∷ serving ∷ length log ∷ []
+  pub bells : List ℕ
+  pub words : s.words ≡ ticket ∷ serving ∷ length log ∷ bells
+  -- of the bells nothing is said but their number
+  pub sixteen : length bells ≡ 16
   -- each ticket from serving up and below ticket is one seat's, and no other ticket is
   pub waiting : (t : ℕ) → serving ≤ t → t < ticket → total (has t) s.views ≡ 1
   pub served : (t : ℕ) → t < serving → total (has t) s.views ≡ 0

@@ -1,6 +1,6 @@
 //! A state machine behind a ticket lock, one step of the lock after another.
 
-ghost use Rattle.std.specs.Prelude.{◌≡◌, ◌+◌, ◌^◌, ◌<◌, ◌≤◌, List, ◌∷◌, [], length, Some, IfOk, ℕ};
+ghost use Rattle.std.specs.Prelude.{◌≡◌, ◌+◌, ◌%◌, ◌^◌, ◌<◌, ◌≤◌, List, ◌∷◌, [], length, Some, IfOk, ℕ};
 ghost use Rattle.std.specs.Prelude.{true};
 ghost use Rattle.sv_base.specs.declared.config.Config.{Config};
 ghost use Rattle.object_model.specs.Fits.{fits as fits_in};
@@ -15,7 +15,8 @@ ghost use Rattle.history_lock.specs.Seats.{Took, config_or, step_result};
 ghost use Rattle.history_lock.specs.declared.view.Phase.TheVariants.{Idle, Drawn, Busy, Added};
 
 use crate::rule::{
-    Announced, Append, Both, Compare, Count, Cut, Draw, Hear, Law, Look, PassOn, Portion, Witness,
+    Announced, Append, Both, Compare, Count, Cut, Draw, Hear, Law, Look, PassOn, Portion, Ring,
+    Witness,
 };
 use crate::view::{About, View};
 use atomic_table::{Refused, Table};
@@ -28,11 +29,19 @@ use sv_base::{ActorNo, Moment};
 
 pub(crate) type Seat<M> = atomic_table::Seat<Option<M>, View>;
 
+/// The bell of a ticket: the word on which its thread parks, and which counts up when the ticket is served. Sixteen of them stand
+/// after the ticket, the served ticket and the length, so that a turn's end wakes few threads but the next one.
+fn bell_of(ticket: u64) -> usize
+    ensures { result ≡ 3 + ticket % 16 }
+{
+    3 + (ticket % 16) as usize
+}
+
 /// A state machine behind a ticket lock.
 #[derive(Drop)]
 pub(crate) struct Lock<M: StateMachine> {
     table: Table<Option<M>, View, About, Law<M>, Global>,
-    ghost sized: { (table.shared.table_id.words ≡ 3) × (table.shared.table_id.slots ≡ 1) },
+    ghost sized: { (table.shared.table_id.words ≡ 19) × (table.shared.table_id.slots ≡ 1) },
 }
 
 impl<M: StateMachine> Lock<M> {
@@ -54,7 +63,7 @@ impl<M: StateMachine> Lock<M> {
             }
         };
         slots.push_reserved(Some(machine));
-        match Table::new(alloc, &[0, 0, 0], slots, about) {
+        match Table::new(alloc, &[0; 19], slots, about) {
             Ok((table, seat)) => Ok((Lock { table }, seat)),
             Err(Refused { slots }) => {
                 drop(slots);
@@ -150,19 +159,22 @@ impl<M: StateMachine> Lock<M> {
         self.table.shared.fetch_add::<Draw>(seat, 0, 1)
     }
 
-    /// Waits until the ticket is served, and takes the machine.
+    /// Waits until the ticket is served, and takes the machine. The bell is read before the served ticket: where it rings after that
+    /// look, the thread does not park.
     fn wait_turn<R: Wait>(&self, rt: &R, seat: &mut Seat<M>, ticket: u64)
         requires table { seat.old.table_id ≡ self.now.table.shared.table_id }
         requires drawn { seat.old.me.0.phase ≡ Drawn ticket }
         ensures table { seat.new.table_id ≡ seat.old.table_id }
         ensures got { Got M.stands seat.old.me ticket seat.new.me }
     {
+        let bell = bell_of(ticket);
         for _ in rt.forever() {
+            let rung = self.table.shared.peek(bell);
             let serving = self.table.shared.load::<Look<M>>(seat, 1);
             if serving == ticket {
                 return;
             }
-            self.table.shared.park(rt, 1, (serving % (1 << 32)) as u32);
+            self.table.shared.park(rt, bell, (rung % (1 << 32)) as u32);
         }
         unreachable!()
     }
@@ -188,7 +200,7 @@ impl<M: StateMachine> Lock<M> {
         self.table.shared.fetch_add::<Append<E>>(seat, 2, 1)
     }
 
-    /// Gives the machine back, and serves the next ticket.
+    /// Gives the machine back, serves the next ticket, and rings its bell.
     fn pass_on(&self, seat: &mut Seat<M>)
         requires table { seat.old.table_id ≡ self.now.table.shared.table_id }
         requires busy { busy seat.old.me.0 ≡ 1 }
@@ -198,8 +210,10 @@ impl<M: StateMachine> Lock<M> {
         ensures table { seat.new.table_id ≡ seat.old.table_id }
         ensures seat { seat.new.me ≡ (resting seat.old.me.0, []) }
     {
-        self.table.shared.fetch_add::<PassOn>(seat, 1, 1);
-        self.table.shared.wake_all(1);
+        let served = self.table.shared.fetch_add::<PassOn>(seat, 1, 1);
+        let bell = bell_of(served.wrapping_add(1));
+        self.table.shared.fetch_add::<Ring>(seat, bell, 1);
+        self.table.shared.wake_all(bell);
     }
 
     /// How long the history is, for a seat that has the machine.

@@ -71,6 +71,15 @@ impl<M> Play<Option<M>, View> for PassOn {
     ghost then = { passes };
 }
 
+/// A bell is rung.
+pub struct Ring;
+
+impl<M> Play<Option<M>, View> for Ring {
+    ghost use Rattle.history_lock.specs.Plays.{rings};
+
+    ghost then = { rings };
+}
+
 /// How many numbers and turns a new seat gets.
 pub trait Portion {
     ghost use Rattle.std.specs.Prelude.{ℕ};
