@@ -8,6 +8,7 @@ pub const BAY_TOOL: Program = Program {
     usage: "usage: bay_tool replay < RECORD
        bay_tool check < CONFIGURATION
        bay_tool gen SEED COUNT
+       bay_tool load SEED COUNT
        bay_tool -h | --help | --version
 
 replay   reads a record of what a process and its clients did, and writes
@@ -16,6 +17,9 @@ check    reads a configuration, and writes its counts of domains, logical
          nodes, attributes, data sets, report control blocks and controls
 gen      writes a record of COUNT lines, 1 to 100000, that are drawn from SEED,
          0 to 18446744073709551615; the same words write the same record
+load     replays the record that gen writes, and writes how many steps it has,
+         how many reports its takes gave, and how many of these are marked:
+         entries before them were discarded unsent
 
 A status other than 0 has a line on standard error, `bay_tool: ` and words:
 

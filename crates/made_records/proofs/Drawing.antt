@@ -13,7 +13,7 @@ after-next zero d = refl
 after-next (suc n) d = ap next_draw (after-next n d)
 
 -- one line more stands after the others
-lines-more : (n : ℕ) (d : Draw) → lines_from (suc n) d ≡ lines_from n d ++ line_by (draw_after n d) ∷ []
+pub lines-more : (n : ℕ) (d : Draw) → lines_from (suc n) d ≡ lines_from n d ++ line_by (draw_after n d) ∷ []
 lines-more zero d = refl
 lines-more (suc n) d = ap (λ l. line_by d ∷ l) (lines-more n (next_draw d) ∙ ap (λ e. lines_from n (next_draw d) ++ line_by e ∷ []) (after-next n d))
 

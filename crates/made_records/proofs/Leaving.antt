@@ -1,13 +1,12 @@
 -- What is left of a made record.
 use Rattle.std.proofs.Common.{◌≡◌, ◌<◌, ◌+◌, ℕ, zero, suc, List, [], ◌∷◌, ◌++◌, length, refl, sym, ap, ◌∙◌, arith, append_assoc, length-append}
-use Rattle.std.specs.Prelude.{true, false}
+use Rattle.std.specs.Prelude.{codes}
 use Rattle.made_records.specs.declared.draw.Draw.{Draw}
 use Rattle.made_records.specs.declared.line.MadeLine.{MadeLine}
-use Rattle.made_records.specs.declared.line.MadeLine.TheVariants.{Power, Indication, At, Take}
 use Rattle.made_records.specs.declared.made_record.Part.{Part}
 use Rattle.made_records.specs.declared.made_record.Part.TheVariants.{Opening, Lines, Nothing}
 use Rattle.made_records.specs.Made.{line_by, next_draw, draw_after}
-use Rattle.made_records.specs.Texts.{line_text, lines_text, ending}
+use Rattle.made_records.specs.Texts.{line_octets, line_text, lines_text, ending}
 use Rattle.made_records.specs.Left.{octets_left}
 use Rattle.made_records.proofs.Drawing.{after-next}
 
@@ -23,11 +22,7 @@ end-behind : (n k m : ℕ) (d : Draw) → n ≡ k + m → lines_text n d ++ endi
 end-behind n k m d parts = ap (λ l. l ++ ending) (lines-split n k m d parts) ∙ append_assoc (lines_text k d) (lines_text m (draw_after k d)) ending
 
 line-some : (l : MadeLine) → 0 < length (line_text l)
-line-some (Power n) = omega arith
-line-some (Indication true) = omega arith
-line-some (Indication false) = omega arith
-line-some (At moment) = omega arith
-line-some Take = omega arith
+line-some l = omega (arith, length-append (line_octets l) (codes "\n"))
 
 lines-some : (n : ℕ) (d : Draw) → 0 < n → 0 < length (lines_text n d)
 lines-some zero d h = absurd (omega (arith, h))

@@ -7,37 +7,12 @@ ghost use Rattle.made_records.specs.Texts.{lines_text, made_record};
 
 use crate::draw::Draw;
 use crate::line::push_line;
+use crate::opening::push_opening;
 use std::alloc::AllocError;
 use std::marker::Model;
 
 /// The most drawn lines of a piece.
 const LINES: u32 = 256;
-
-/// What stands before the drawn lines: a configuration, and that a client enables its block.
-const OPENING: &[u8] = b"record 1
-config 1
-server Demo Bay 1
-ld BAY1
-ln LLN0
-set Events
-member BAY1/XCBR1$ST$Pos
-member BAY1/GGIO1$ST$Ind1
-member BAY1/MMXU1$MX$TotW$mag$i
-brcb brcbEv01 'Ev1 'BAY1/LLN0$Events 1 0111001110 0 011001 0 200
-ln XCBR1
-attr ST Pos$stVal dbpos d 01
-attr ST Pos$q quality q 0000000000000
-attr ST Pos$t time - 0000000000000000
-ln GGIO1
-attr ST Ind1$stVal bool d F
-attr ST Ind1$q quality q 0000000000000
-attr ST Ind1$t time - 0000000000000000
-ln MMXU1
-attr MX TotW$mag$i int32 d 0
-end
-open 1 direct
-write 1 BAY1/LLN0$BR$brcbEv01 RptEna T
-";
 
 /// Adds n drawn lines, and answers how the drawing goes on.
 fn push_lines(out: &mut Vec<u8>, from: Draw, count: u32) -> Result<Draw, AllocError>
@@ -112,7 +87,7 @@ impl MadeRecord {
         piece.clear();
         match self.part {
             Part::Opening => {
-                piece.extend_from_slice(OPENING)?;
+                push_opening(piece)?;
                 self.part = Part::Lines;
             }
             Part::Lines if self.count > 0 => {

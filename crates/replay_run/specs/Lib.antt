@@ -6,3 +6,5 @@ pub mod Tool
 pub mod Writing
 -- What is answered to a configuration.
 pub mod Checked
+-- What is written of a made record that is replayed.
+pub mod Loaded

@@ -4,9 +4,11 @@ ghost use Rattle.std.specs.Prelude.{◌≡◌, ◌≤◌, ◌↔◌, ℕ, IfSome
 ghost use Rattle.std.specs.Io.KnownBytes.{Appends};
 ghost use Rattle.sv_io.specs.Causes.{Rose};
 ghost use Rattle.sv_io.specs.Taken.{TakesAtMost};
+ghost use Rattle.record_outcome.specs.Histories.{lines_of, history_of};
 ghost use Rattle.record_outcome.specs.Written.{WritesHistory};
 ghost use Rattle.replay_run.specs.Checked.{IsChecked, IsOfCheck, Checks, ChecksFront};
-ghost use Rattle.replay_run.specs.Tool.{IsReplay, IsCheck, IsGen, IsCommand};
+ghost use Rattle.replay_run.specs.Tool.{IsReplay, IsCheck, IsGen, IsLoad, IsCommand};
+ghost use Rattle.replay_run.specs.Loaded.{WritesSummary};
 ghost use Rattle.replay_run.specs.Writing.{IsOfWriting};
 ghost use Rattle.made_records.specs.Texts.{made_record};
 ghost use Rattle.record_outcome.specs.Judgements.{IsJudgement, IsRefusal, IsOfReplay, Answers};
@@ -14,6 +16,7 @@ ghost use Rattle.record_outcome.specs.Grammar.{IsNoRecord};
 ghost use Rattle.record_session.specs.Fronts.{WritesFront};
 
 use crate::check::check;
+use crate::load::load;
 use crate::made::{asked_for, generate};
 use command_line::is_word;
 use record_outcome::status::Status;
@@ -23,7 +26,7 @@ use sv_io::{Sink, Source};
 
 /// Does all that the program does. With the word `replay` it reads a record from the source, and writes the answers to its
 /// lines to the sink; with the word `check` it reads a configuration, and writes what it counts in it; with `gen`, a seed
-/// and a count it writes the record that they make.
+/// and a count it writes the record that they make, and with `load` what the history of that record comes to.
 pub fn tool<S: Source, K: Sink>(
     alloc: Global,
     words: &[String],
@@ -66,6 +69,13 @@ pub fn tool<S: Source, K: Sink>(
     ensures generates { (seed : ℕ) → (count : ℕ) → IsGen words.now seed count → IsOfWriting result
         × (source.new ≡ source.old) }
 
+    // How many steps, reports and marked reports the history of that record has; nothing is read.
+    ensures loaded { (seed : ℕ) → (count : ℕ) → IsLoad words.now seed count → result ≡ Status.Ok
+        → WritesSummary (history_of (lines_of (made_record seed count))) (K.taken sink.old)
+        (K.taken sink.new) }
+    ensures loads { (seed : ℕ) → (count : ℕ) → IsLoad words.now seed count → IsOfWriting result
+        × (source.new ≡ source.old) }
+
     // At most 67108865 octets are taken from the source; with other words source and sink are left alone.
     ensures taken { TakesAtMost 67108865 (S.left source.old) (S.left source.new) }
     ensures idle { (IsCommand words.now → ⊥) → (source.new ≡ source.old) × (sink.new ≡ sink.old) }
@@ -82,8 +92,11 @@ pub fn tool<S: Source, K: Sink>(
     if is_word(words, "check") {
         return check(alloc, source, sink);
     }
-    match asked_for(words, "gen") {
-        Some(asked) => generate(alloc, asked, sink),
+    if let Some(asked) = asked_for(words, "gen") {
+        return generate(alloc, asked, sink);
+    }
+    match asked_for(words, "load") {
+        Some(asked) => load(alloc, asked, sink),
         None => Status::Words,
     }
 }
